@@ -6,10 +6,7 @@ use Rattle.std.specs.Prelude.{IsSomeAnd}
 use Rattle.std.proofs.lemmas.Grind.{flat_map-append}
 use Rattle.std.proofs.lemmas.List.{take-append-drop, at_drop_more}
 use Rattle.std.proofs.lemmas.List.Folds.{find-append, list_any-append}
-use Rattle.cl_model.specs.declared.model.SystemModel.{SystemModel}
-use Rattle.cl_model.specs.declared.task.RunnableDef.{RunnableDef}
-use Rattle.cl_model.specs.declared.task.TaskDef.{TaskDef}
-use Rattle.cl_model.specs.Named.{same_name, has_name, tasks_on, all_runnables, labels_written}
+use Rattle.cl_model.specs.{declared.{model.SystemModel.SystemModel, task.{RunnableDef.RunnableDef, TaskDef.TaskDef}}, Named.{same_name, has_name, tasks_on, all_runnables, labels_written}}
 use Rattle.cl_model.proofs.ListFacts.{list_any-flat_map}
 use Rattle.cl_advice.specs.With.{shares_priority, rival_of, writer_of}
 

@@ -7,8 +7,7 @@ use Rattle.std.proofs.lemmas.List.Folds.{list_all-append}
 use Rattle.std.proofs.lemmas.List.Sums.{AllPass-from_list_all}
 use Rattle.std.specs.List.{AllPass, list_all, flat_map}
 use Rattle.std.specs.Prelude.{codes, nat_le}
-use Rattle.cl_advice.specs.declared.shown.TheConstants.{MOST_SHOWN, MOST_QUOTED}
-use Rattle.cl_advice.specs.Shown.{is_printable, is_plain, hex_digit, shown_byte, shown_in, shown, quoted}
+use Rattle.cl_advice.specs.{declared.shown.TheConstants.{MOST_SHOWN, MOST_QUOTED}, Shown.{is_printable, is_plain, hex_digit, shown_byte, shown_in, shown, quoted}}
 
 -- all bytes are printable
 abbrev pub Printable : List ℕ → Type 0

@@ -5,29 +5,13 @@ use Rattle.std.specs.List.{AllPass}
 use Rattle.std.specs.Option.{option_map}
 use Rattle.std.specs.Prelude.{codes, IfSome}
 use Rattle.std.proofs.lemmas.List.Sums.{AllPass-from_list_all}
-use Rattle.cl_model.specs.declared.model.SystemModel.{SystemModel}
-use Rattle.cl_model.specs.declared.place.Part.{Part}
+use Rattle.cl_model.specs.{declared.{model.SystemModel.SystemModel, place.{Part.Part, Place.Place}, refusal.{Code.Code, Refusal.Refusal}}, AreNamed.AreNamed, Name.IsName, Place.{part_text, key_text}}
 use Rattle.cl_model.specs.declared.place.Part.TheVariants as part
-use Rattle.cl_model.specs.declared.place.Place.{Place}
-use Rattle.cl_model.specs.declared.refusal.Code.{Code}
 use Rattle.cl_model.specs.declared.refusal.Code.TheVariants as code
-use Rattle.cl_model.specs.declared.refusal.Refusal.{Refusal}
-use Rattle.cl_model.specs.AreNamed.{AreNamed}
-use Rattle.cl_model.specs.Name.{IsName}
-use Rattle.cl_model.specs.Place.{part_text, key_text}
-use Rattle.cl_advice.specs.Found.{shown_key_line}
-use Rattle.cl_advice.specs.Known.{known_line}
-use Rattle.cl_advice.specs.Measured.{said_if, measured_line}
-use Rattle.cl_advice.specs.Mend.{mended_line}
-use Rattle.cl_advice.specs.OfEdits.{entry_name, named_words, named_line, named_entry_line, named_runnable_line, named_lines, full_line, edit_mend, edit_advice_text}
-use Rattle.cl_advice.specs.Shown.{is_printed}
-use Rattle.cl_advice.specs.Wanted.{limit_text, section_want}
-use Rattle.cl_advice.specs.With.{item_if, runnable_of_place, with_lines}
-use Rattle.cl_advice.proofs.CleanLines.{printed_key_line, printed_limit, printed_want_if}
-use Rattle.cl_advice.proofs.CleanMeasured.{printed_measured_line, printed_known_line}
-use Rattle.cl_advice.proofs.CleanMends.{printed_code, printed_handed, printed_mend_if}
-use Rattle.cl_advice.proofs.CleanNames.{item, mapped, runnable_named_at, name_of_runnable, tasks_alone, chains_alone, printed_with_lines}
-use Rattle.cl_advice.proofs.CleanWords.{Printed, printed_both, printed_line, printed_decimal, printed_name, printed_part}
+use Rattle.cl_advice.specs.{Found.shown_key_line, Known.known_line, Measured.{said_if, measured_line}, Mend.mended_line, OfEdits.{entry_name, named_words, named_line, named_entry_line, named_runnable_line, named_lines, full_line, edit_mend, edit_advice_text}, Shown.is_printed}
+use Rattle.cl_advice.specs.{Wanted.{limit_text, section_want}, With.{item_if, runnable_of_place, with_lines}}
+use Rattle.cl_advice.proofs.{CleanLines.{printed_key_line, printed_limit, printed_want_if}, CleanMeasured.{printed_measured_line, printed_known_line}, CleanMends.{printed_code, printed_handed, printed_mend_if}, CleanNames.{item, mapped, runnable_named_at, name_of_runnable, tasks_alone}}
+use Rattle.cl_advice.proofs.{CleanNames.{chains_alone, printed_with_lines}, CleanWords.{Printed, printed_both, printed_line, printed_decimal, printed_name, printed_part}}
 
 -- ---- names
 

@@ -4,25 +4,13 @@ use Rattle.std.specs.Fmt.{decimal}
 use Rattle.std.specs.Prelude.{codes, IfSome}
 use Rattle.std.specs.Option.{option_map, option_and_then}
 use Rattle.toml.specs.Data.{Data, string, integer, float, boolean, datetime, array, table, Members, get}
-use Rattle.cl_model.specs.declared.chain.LengthKind.TheVariants.{Reaction, Age, Reduced}
-use Rattle.cl_model.specs.declared.chain.RequirementKind.TheVariants.{Length, Delay}
-use Rattle.cl_model.specs.declared.place.Place.{Place}
+use Rattle.cl_model.specs.{declared.{chain.{LengthKind.TheVariants.{Reaction, Age, Reduced}, RequirementKind.TheVariants.{Length, Delay}}, place.Place.Place, refusal.Code.Code}, Name.is_name, Place.key_text, Reading.{version_in, Checks.members_of, Tables.{periodic_form, sporadic_form}}}
+use Rattle.cl_model.specs.Reading.Tables.{burst_form}
 use Rattle.cl_model.specs.declared.place.Key.TheVariants as key
-use Rattle.cl_model.specs.declared.refusal.Code.{Code}
 use Rattle.cl_model.specs.declared.refusal.Code.TheVariants as code
-use Rattle.cl_model.specs.Name.{is_name}
-use Rattle.cl_model.specs.Place.{key_text}
-use Rattle.cl_model.specs.Reading.{version_in}
-use Rattle.cl_model.specs.Reading.Checks.{members_of}
-use Rattle.cl_model.specs.Reading.Tables.{periodic_form, sporadic_form, burst_form}
-use Rattle.cl_advice.specs.declared.want.Want.{Want}
+use Rattle.cl_advice.specs.{declared.want.Want.Want, Shown.shown, Sites.table_around, Keys.known_keys, Entry.{name_or_dash, table_name, numbered_words, numbered_line}, Found.{value_text, shown_key_line, value_line}, Wanted.{one_of, listed_words, range_text, want_text, limit_text}}
+use Rattle.cl_advice.specs.Wanted.{keys_text, wanted_text, want_at, want_line}
 use Rattle.cl_advice.specs.declared.want.Want.TheVariants as want
-use Rattle.cl_advice.specs.Shown.{shown}
-use Rattle.cl_advice.specs.Sites.{table_around}
-use Rattle.cl_advice.specs.Keys.{known_keys}
-use Rattle.cl_advice.specs.Entry.{name_or_dash, table_name, numbered_words, numbered_line}
-use Rattle.cl_advice.specs.Found.{value_text, shown_key_line, value_line}
-use Rattle.cl_advice.specs.Wanted.{one_of, listed_words, range_text, want_text, limit_text, keys_text, wanted_text, want_at, want_line}
 use Rattle.cl_advice.proofs.CleanWords.{Printed, printed_both, printed_line, printed_shown, printed_quoted, printed_decimal, printed_signed, printed_name_or_dash, printed_keys}
 
 -- ---- entries

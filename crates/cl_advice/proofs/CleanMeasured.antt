@@ -7,33 +7,15 @@ use Rattle.std.specs.Prelude.{codes, decimal, IfSome}
 use Rattle.std.proofs.lemmas.List.Concat.{flat_map-cons}
 use Rattle.std.proofs.lemmas.List.Elements.{All-head, All-tail, All-nil, All-cons}
 use Rattle.cl_text.specs.Line.{line}
-use Rattle.cl_model.specs.declared.chain.ChainDef.{ChainDef}
-use Rattle.cl_model.specs.declared.limits.TheConstants.{MOST_DISTANCES}
-use Rattle.cl_model.specs.declared.model.SystemModel.{SystemModel}
-use Rattle.cl_model.specs.declared.place.Place.{Place}
-use Rattle.cl_model.specs.declared.refusal.Code.{Code}
+use Rattle.cl_model.specs.declared.{chain.ChainDef.ChainDef, limits.TheConstants.MOST_DISTANCES, model.SystemModel.SystemModel, place.Place.Place, refusal.{Code.Code, Refusal.Refusal}, stimulus.{StimulusDef.StimulusDef, StimulusKind.{StimulusKind, TheVariants.{Periodic, Sporadic, Burst}}}}
+use Rattle.cl_model.specs.{declared.task.{RunnableDef.RunnableDef, TaskDef.TaskDef}, AreNamed.{IsRunnableNamed, IsTaskNamed, IsChainNamed, AreNamed}, Name.IsName, Named.{has_name, all_runnables, core_names, stimulus_names, label_names, chain_names}, Timing.least_distance}
+use Rattle.cl_model.specs.Timing.{greatest_jitter, deadline_under}
 use Rattle.cl_model.specs.declared.refusal.Code.TheVariants as code
-use Rattle.cl_model.specs.declared.refusal.Refusal.{Refusal}
-use Rattle.cl_model.specs.declared.stimulus.StimulusDef.{StimulusDef}
-use Rattle.cl_model.specs.declared.stimulus.StimulusKind.{StimulusKind}
-use Rattle.cl_model.specs.declared.stimulus.StimulusKind.TheVariants.{Periodic, Sporadic, Burst}
-use Rattle.cl_model.specs.declared.task.RunnableDef.{RunnableDef}
-use Rattle.cl_model.specs.declared.task.TaskDef.{TaskDef}
-use Rattle.cl_model.specs.AreNamed.{IsRunnableNamed, IsTaskNamed, IsChainNamed, AreNamed}
-use Rattle.cl_model.specs.Name.{IsName}
-use Rattle.cl_model.specs.Named.{has_name, all_runnables, core_names, stimulus_names, label_names, chain_names}
-use Rattle.cl_model.specs.Timing.{least_distance, greatest_jitter, deadline_under}
-use Rattle.cl_advice.specs.declared.known.TheConstants.{MOST_KNOWN}
-use Rattle.cl_advice.specs.declared.measured.Said.{Said}
+use Rattle.cl_advice.specs.{declared.{known.TheConstants.MOST_KNOWN, measured.Said.Said, with.Sought.TheVariants.Named}, With.{item_if, task_of_place, is_sought, found_by, step_name}, Measured.{said_if, below_period_line, offset_line, greatest_distance_line, fitting_text, burst_line}}
+use Rattle.cl_advice.specs.Measured.{kind_for, said_by_kind, deadline_line, found_jitter_line, jitter_line, spans, span_line, spanned_line, greatest_time_line, lengths_line, stimulus_line, task_limit_line, line_of_stimulus, line_of_task, measured_by, measured_line, jitter_found}
+use Rattle.cl_advice.specs.{Known.{more_text, known_names, known_by, known_line}, Hop.{runnable_of_hop, label_of_hop, lacking_words, lacking_one, lacking_between, lacking_text}}
 use Rattle.cl_advice.specs.declared.measured.Said.TheVariants as said
-use Rattle.cl_advice.specs.declared.with.Sought.TheVariants.{Named}
-use Rattle.cl_advice.specs.With.{item_if, task_of_place, is_sought, found_by, step_name}
-use Rattle.cl_advice.specs.Measured.{said_if, below_period_line, offset_line, greatest_distance_line, fitting_text, burst_line, kind_for, said_by_kind, deadline_line, found_jitter_line, jitter_line}
-use Rattle.cl_advice.specs.Measured.{spans, span_line, spanned_line, greatest_time_line, lengths_line, stimulus_line, task_limit_line, line_of_stimulus, line_of_task, measured_by, measured_line, jitter_found}
-use Rattle.cl_advice.specs.Known.{more_text, known_names, known_by, known_line}
-use Rattle.cl_advice.specs.Hop.{runnable_of_hop, label_of_hop, lacking_words, lacking_one, lacking_between, lacking_text}
-use Rattle.cl_advice.proofs.CleanWords.{Printed, printed_both, printed_chosen, printed_line, printed_name, printed_decimal}
-use Rattle.cl_advice.proofs.CleanNames.{item, first_of, followed, runnables_named, step_named_at, chains_alone}
+use Rattle.cl_advice.proofs.{CleanWords.{Printed, printed_both, printed_chosen, printed_line, printed_name, printed_decimal}, CleanNames.{item, first_of, followed, runnables_named, step_named_at, chains_alone}}
 
 -- ---- sentences
 

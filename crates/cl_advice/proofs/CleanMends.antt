@@ -6,38 +6,16 @@ use Rattle.std.specs.Option.{option_map, option_or}
 use Rattle.std.specs.Prelude.{codes, IfSome, unwrap_or}
 use Rattle.std.specs.Str.{bytes_eq}
 use Rattle.toml.specs.Data.{Members}
-use Rattle.cl_model.specs.declared.model.SystemModel.{SystemModel}
-use Rattle.cl_model.specs.declared.place.Key.{Key}
+use Rattle.cl_model.specs.{declared.{model.SystemModel.SystemModel, place.{Key.Key, Part.Part, Place.Place}, refusal.{Code.Code, Refusal.Refusal}}, AreNamed.AreNamed, Place.{part_text, key_text}, Reading.{version_in, Checks.keys_of, Tables.{task_fields, runnable_fields}}}
 use Rattle.cl_model.specs.declared.place.Key.TheVariants as key
-use Rattle.cl_model.specs.declared.place.Part.{Part}
 use Rattle.cl_model.specs.declared.place.Part.TheVariants as part
-use Rattle.cl_model.specs.declared.place.Place.{Place}
-use Rattle.cl_model.specs.declared.refusal.Code.{Code}
 use Rattle.cl_model.specs.declared.refusal.Code.TheVariants as code
-use Rattle.cl_model.specs.declared.refusal.Refusal.{Refusal}
-use Rattle.cl_model.specs.AreNamed.{AreNamed}
-use Rattle.cl_model.specs.Place.{part_text, key_text}
-use Rattle.cl_model.specs.Reading.{version_in}
-use Rattle.cl_model.specs.Reading.Checks.{keys_of}
-use Rattle.cl_model.specs.Reading.Tables.{task_fields, runnable_fields}
-use Rattle.cl_advice.specs.declared.want.Want.{Want}
+use Rattle.cl_advice.specs.{declared.want.Want.Want, Shown.is_printed, Sites.{entry_in, runnable_around, value_in}, Keys.{is_listed, unknown_key, refused_key, refused_value}, Entry.{entry_line, runnable_line}, Found.{key_line, found_by_code, found_line}, Hop.lacking_text, Known.known_line}
+use Rattle.cl_advice.specs.{Measured.measured_line, Wanted.{want_at, wanted_line}, With.with_lines, Mend.{plural_mend, runnable_key_mend, part_key_mend, unknown_mend, section_mend, array_mend, kind_mend, says_word, word_mend, code_mend, mend_text, mended_line, handed_or_both, mend_by}}
+use Rattle.cl_advice.specs.{Mend.mend_line, Advice.advice_text}
 use Rattle.cl_advice.specs.declared.want.Want.TheVariants as want
-use Rattle.cl_advice.specs.Shown.{is_printed}
-use Rattle.cl_advice.specs.Sites.{entry_in, runnable_around, value_in}
-use Rattle.cl_advice.specs.Keys.{is_listed, unknown_key, refused_key, refused_value}
-use Rattle.cl_advice.specs.Entry.{entry_line, runnable_line}
-use Rattle.cl_advice.specs.Found.{key_line, found_by_code, found_line}
-use Rattle.cl_advice.specs.Hop.{lacking_text}
-use Rattle.cl_advice.specs.Known.{known_line}
-use Rattle.cl_advice.specs.Measured.{measured_line}
-use Rattle.cl_advice.specs.Wanted.{want_at, wanted_line}
-use Rattle.cl_advice.specs.With.{with_lines}
-use Rattle.cl_advice.specs.Mend.{plural_mend, runnable_key_mend, part_key_mend, unknown_mend, section_mend, array_mend, kind_mend, says_word, word_mend, code_mend, mend_text, mended_line, handed_or_both, mend_by, mend_line}
-use Rattle.cl_advice.specs.Advice.{advice_text}
-use Rattle.cl_advice.proofs.CleanWords.{Printed, printed_both, printed_chosen, printed_line, printed_part}
-use Rattle.cl_advice.proofs.CleanLines.{printed_numbered_line, printed_key_line, printed_value_line, printed_want_line}
-use Rattle.cl_advice.proofs.CleanMeasured.{printed_measured_line, printed_jitter_found, printed_known_line, printed_lacking_text}
-use Rattle.cl_advice.proofs.CleanNames.{printed_with_lines}
+use Rattle.cl_advice.proofs.{CleanWords.{Printed, printed_both, printed_chosen, printed_line, printed_part}, CleanLines.{printed_numbered_line, printed_key_line, printed_value_line, printed_want_line}, CleanMeasured.{printed_measured_line, printed_jitter_found, printed_known_line}}
+use Rattle.cl_advice.proofs.{CleanMeasured.printed_lacking_text, CleanNames.printed_with_lines}
 
 -- one of two fixed texts
 one_of_two : (t : Bool) (a b : List ℕ) → Printed a → Printed b → Printed (cond t a b)

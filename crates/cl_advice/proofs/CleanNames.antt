@@ -4,24 +4,12 @@ use Rattle.std.specs.List.{find}
 use Rattle.std.specs.Option.{option_map, option_and_then}
 use Rattle.std.specs.Prelude.{codes, IfSome}
 use Rattle.std.proofs.lemmas.List.Elements.{All-head, All-tail, All-nil, All-append}
-use Rattle.cl_model.specs.declared.chain.ChainDef.{ChainDef}
-use Rattle.cl_model.specs.declared.model.SystemModel.{SystemModel}
-use Rattle.cl_model.specs.declared.place.Key.{Key}
+use Rattle.cl_model.specs.{declared.{chain.ChainDef.ChainDef, model.SystemModel.SystemModel, place.{Key.Key, Part.Part, Place.Place}, refusal.{Code.Code, Refusal.Refusal}, task.{RunnableDef.RunnableDef, TaskDef.TaskDef}}, AreNamed.{IsRunnableNamed, IsTaskNamed, IsChainNamed, AreNamed}}
+use Rattle.cl_model.specs.{Name.IsName, Named.all_runnables, Place.part_text}
 use Rattle.cl_model.specs.declared.place.Key.TheVariants as key
-use Rattle.cl_model.specs.declared.place.Part.{Part}
 use Rattle.cl_model.specs.declared.place.Part.TheVariants as part
-use Rattle.cl_model.specs.declared.place.Place.{Place}
-use Rattle.cl_model.specs.declared.refusal.Code.{Code}
 use Rattle.cl_model.specs.declared.refusal.Code.TheVariants as code
-use Rattle.cl_model.specs.declared.refusal.Refusal.{Refusal}
-use Rattle.cl_model.specs.declared.task.RunnableDef.{RunnableDef}
-use Rattle.cl_model.specs.declared.task.TaskDef.{TaskDef}
-use Rattle.cl_model.specs.AreNamed.{IsRunnableNamed, IsTaskNamed, IsChainNamed, AreNamed}
-use Rattle.cl_model.specs.Name.{IsName}
-use Rattle.cl_model.specs.Named.{all_runnables}
-use Rattle.cl_model.specs.Place.{part_text}
-use Rattle.cl_advice.specs.With.{item_if, with_line, namesake_line, task_of_place, runnable_of_place, labels_under, label_of_place, shares_priority, rival_of, is_sought, writer_of, step_name, lines_with, with_lines}
-use Rattle.cl_advice.specs.declared.with.Sought.TheVariants.{Writer}
+use Rattle.cl_advice.specs.{With.{item_if, with_line, namesake_line, task_of_place, runnable_of_place, labels_under, label_of_place, shares_priority, rival_of, is_sought, writer_of, step_name, lines_with, with_lines}, declared.with.Sought.TheVariants.Writer}
 use Rattle.cl_advice.proofs.CleanWords.{Printed, printed_both, printed_line, printed_name, printed_part}
 
 -- ---- items of lists

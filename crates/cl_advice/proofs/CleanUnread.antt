@@ -5,11 +5,8 @@ use Rattle.std.specs.Fmt.{decimal}
 use Rattle.std.specs.List.{AllPass}
 use Rattle.std.specs.Prelude.{codes}
 use Rattle.cl_text.specs.Line.{line}
-use Rattle.cl_model.specs.declared.place.Part.{Part}
-use Rattle.cl_model.specs.Place.{part_text}
-use Rattle.cl_advice.specs.Shown.{is_printed, shown}
-use Rattle.cl_advice.specs.Unread.{first_sign, has_returns_alone, instead_mend, doubled_in, message_line, doubled_lines, mend_lines, unread_text}
-use Rattle.cl_advice.specs.Advice.{at_line}
+use Rattle.cl_model.specs.{declared.place.Part.Part, Place.part_text}
+use Rattle.cl_advice.specs.{Shown.{is_printed, shown}, Unread.{first_sign, has_returns_alone, instead_mend, doubled_in, message_line, doubled_lines, mend_lines, unread_text}, Advice.at_line}
 use Rattle.cl_advice.proofs.CleanWords.{Printed, printed_both, printed_chosen, printed_line, printed_shown, printed_decimal, printed_part}
 
 printed_at : (row column : ℕ) → Printed (at_line row column)

@@ -7,17 +7,11 @@ use Rattle.std.specs.Fmt.{decimal, signed_decimal, digits, digits_onto, digit_gl
 use Rattle.std.specs.List.{list_all, flat_map}
 use Rattle.std.specs.Prelude.{codes}
 use Rattle.cl_text.specs.Line.{line}
-use Rattle.cl_model.specs.declared.place.Part.{Part}
+use Rattle.cl_model.specs.{declared.place.{Part.Part, Key.Key}, Name.{is_name_byte, is_name, IsName}, Place.{part_text, key_text}}
 use Rattle.cl_model.specs.declared.place.Part.TheVariants as part
-use Rattle.cl_model.specs.declared.place.Key.{Key}
 use Rattle.cl_model.specs.declared.place.Key.TheVariants as key
-use Rattle.cl_model.specs.Name.{is_name_byte, is_name, IsName}
-use Rattle.cl_model.specs.Place.{part_text, key_text}
-use Rattle.cl_model.proofs.ListFacts.{both_pass}
-use Rattle.cl_model.proofs.Names.{name_bytes}
-use Rattle.cl_advice.specs.Shown.{is_printable, is_printed, shown, quoted}
-use Rattle.cl_advice.specs.Wanted.{one_of, joined}
-use Rattle.cl_advice.specs.declared.shown.TheConstants.{MOST_SHOWN}
+use Rattle.cl_model.proofs.{ListFacts.both_pass, Names.name_bytes}
+use Rattle.cl_advice.specs.{Shown.{is_printable, is_printed, shown, quoted}, Wanted.{one_of, joined}, declared.shown.TheConstants.MOST_SHOWN}
 use Rattle.cl_advice.proofs.CleanBytes.{shown_printable, printable_quoted}
 
 -- all bytes are printable ASCII or ends of lines

@@ -3,14 +3,9 @@ use Rattle.std.proofs.Common.{◌≡◌, ℕ, suc, ap, length, Bool, true, false
 use Rattle.std.proofs.lemmas.Str.{IsUtf8-from_is_utf8}
 use Rattle.std.specs.List.{find}
 use Rattle.std.specs.Str.{IsUtf8, is_utf8}
-use Rattle.toml.specs.Data.{Members}
-use Rattle.toml.specs.Parse.{parse_document}
-use Rattle.cl_model.specs.Reading.{document_of}
+use Rattle.toml.specs.{Data.Members, Parse.parse_document, declared.value.Value.Value, View.{items_view, members_view}}
+use Rattle.cl_model.specs.{Reading.{document_of, Checks.members_of}, declared.place.Key.Key}
 use Rattle.std.specs.Option.{option_map}
-use Rattle.toml.specs.declared.value.Value.{Value}
-use Rattle.toml.specs.View.{items_view, members_view}
-use Rattle.cl_model.specs.Reading.Checks.{members_of}
-use Rattle.cl_model.specs.declared.place.Key.{Key}
 use Rattle.cl_advice.specs.Keys.{is_listed, unknown_among}
 
 -- whether a word is none of the keys

@@ -3,13 +3,9 @@ use Rattle.std.proofs.Common.{◌≡◌, ℕ, List, [], ◌∷◌, refl}
 use Rattle.std.specs.List.{All}
 use Rattle.std.proofs.lemmas.List.Elements.{All-cons, All-nil}
 use Rattle.cl_model.specs.declared.place.Part.TheVariants as part
-use Rattle.cl_model.specs.Place.{at_sub, at_spot}
-use Rattle.cl_model.specs.Reading.{Section, sections}
-use Rattle.cl_model.specs.Reading.Checks.{a_name, a_table_of}
-use Rattle.cl_model.specs.Reading.Tables.{core_fields, stimulus_fields, periodic_form, sporadic_form, burst_form, label_fields, task_fields, runnable_fields, chain_fields, requirement_fields}
+use Rattle.cl_model.specs.{Place.{at_sub, at_spot}, Reading.{Section, sections, Checks.{a_name, a_table_of}, Tables.{core_fields, stimulus_fields, periodic_form, sporadic_form, burst_form, label_fields, task_fields, runnable_fields, chain_fields, requirement_fields}}}
 use Rattle.cl_advice.specs.declared.want.Want.TheVariants as want
-use Rattle.cl_advice.specs.Wanted.{section_want}
-use Rattle.cl_advice.specs.WantsOfFields.{AsksByCheck}
+use Rattle.cl_advice.specs.{Wanted.section_want, WantsOfFields.AsksByCheck}
 
 -- it holds of the one item and of the others
 abbrev pub Each : {X : Type 0} → (X → Type 0) → List X → Type 0

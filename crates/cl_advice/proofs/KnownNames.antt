@@ -3,8 +3,7 @@ use Rattle.std.proofs.Common.{◌≡◌, ◌≢◌, ℕ, zero, suc, ◌++◌, Li
 use Rattle.std.specs.Prelude.{codes}
 use Rattle.std.proofs.lemmas.List.Concat.{flat_map-cons}
 use Rattle.cl_text.specs.Line.{line}
-use Rattle.cl_advice.specs.declared.known.TheConstants.{MOST_KNOWN}
-use Rattle.cl_advice.specs.Known.{more_text, known_names}
+use Rattle.cl_advice.specs.{declared.known.TheConstants.MOST_KNOWN, Known.{more_text, known_names}}
 
 -- where there is one
 pub known_is : (names : List (List ℕ)) → names ≢ [] → known_names names

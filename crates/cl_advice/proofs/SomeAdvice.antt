@@ -1,12 +1,9 @@
 -- Something is said of each refusal.
 use Rattle.std.proofs.Common.{ℕ, List, [], ◌++◌, take, Option, Some, None, refl}
 use Rattle.toml.specs.Data.{Members}
-use Rattle.cl_model.specs.declared.model.SystemModel.{SystemModel}
-use Rattle.cl_model.specs.declared.refusal.Refusal.{Refusal}
-use Rattle.cl_model.specs.Reading.{document_of}
+use Rattle.cl_model.specs.{declared.{model.SystemModel.SystemModel, refusal.Refusal.Refusal}, Reading.document_of}
 use Rattle.cl_place.proofs.SomePlace.{front_of, front_is_place, row_of, column_of, is_behind}
-use Rattle.cl_advice.specs.Unread.{unread_text}
-use Rattle.cl_advice.specs.Advice.{advice_text, at_line, AddsPlace, AddsOf, AddsAdvice}
+use Rattle.cl_advice.specs.{Unread.unread_text, Advice.{advice_text, at_line, AddsPlace, AddsOf, AddsAdvice}}
 
 -- the front of some bytes, behind a text
 module _ (bytes before : List ℕ) where

@@ -5,8 +5,7 @@ use Rattle.std.specs.Cmp.Lexicographic.{slice_cmp}
 use Rattle.std.specs.Ordering.{nat_cmp, match_ordering}
 use Rattle.std.specs.Prelude.{IsSome, IsSomeAnd}
 use Rattle.toml.specs.Data.{Data, Members, no_members, member, get_member}
-use Rattle.cl_model.specs.declared.place.Key.{Key}
-use Rattle.cl_model.specs.Reading.Checks.{has_only}
+use Rattle.cl_model.specs.{declared.place.Key.Key, Reading.Checks.has_only}
 use Rattle.cl_advice.specs.Keys.{is_listed, unknown_among}
 
 -- a key that isn't among these, and stands in the table

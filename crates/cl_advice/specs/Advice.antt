@@ -2,19 +2,9 @@
 use Rattle.std.specs.Prelude.{◌≡◌, ℕ, ◌≤◌, List, length, take, ◌++◌, Option, Some, None, codes, decimal}
 use Rattle.toml.specs.Data.{Members}
 use Rattle.cl_text.specs.Line.{line}
-use Rattle.cl_model.specs.declared.model.SystemModel.{SystemModel}
-use Rattle.cl_model.specs.declared.refusal.Refusal.{Refusal}
-use Rattle.cl_model.specs.Reading.{document_of}
-use Rattle.cl_advice.specs.Entry.{entry_line, runnable_line}
-use Rattle.cl_advice.specs.Found.{key_line, found_line}
-use Rattle.cl_advice.specs.Wanted.{wanted_line}
-use Rattle.cl_advice.specs.Measured.{measured_line}
-use Rattle.cl_advice.specs.Known.{known_line}
-use Rattle.cl_advice.specs.With.{with_lines}
-use Rattle.cl_advice.specs.Mend.{mend_line}
-use Rattle.cl_advice.specs.Unread.{unread_text}
-use Rattle.cl_place.specs.Places.{IsPlaceIn}
-use Rattle.cl_place.specs.Positions.{IsBehind}
+use Rattle.cl_model.specs.{declared.{model.SystemModel.SystemModel, refusal.Refusal.Refusal}, Reading.document_of}
+use Rattle.cl_advice.specs.{Entry.{entry_line, runnable_line}, Found.{key_line, found_line}, Wanted.wanted_line, Measured.measured_line, Known.known_line, With.with_lines, Mend.mend_line, Unread.unread_text}
+use Rattle.cl_place.specs.{Places.IsPlaceIn, Positions.IsBehind}
 
 -- what is said of the refusal of a document; of the model that it means, where it has one
 unfoldable pub advice_text : Members → Option SystemModel → Refusal → List ℕ

@@ -4,9 +4,7 @@ use Rattle.std.specs.Option.{option_and_then}
 use Rattle.toml.specs.Data.{Data, string, Members, get}
 use Rattle.cl_text.specs.Line.{line}
 use Rattle.cl_model.specs.declared.place.Key.TheVariants as key
-use Rattle.cl_model.specs.declared.place.Place.{Place}
-use Rattle.cl_model.specs.Name.{is_name}
-use Rattle.cl_model.specs.Place.{part_text, key_text}
+use Rattle.cl_model.specs.{declared.place.Place.Place, Name.is_name, Place.{part_text, key_text}}
 use Rattle.cl_advice.specs.Sites.{entry_in, runnable_around}
 
 -- a name, and `-` in the place of what is none

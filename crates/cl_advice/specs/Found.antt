@@ -3,15 +3,9 @@ use Rattle.std.specs.Prelude.{ℕ, if◌then◌else◌, List, [], ◌++◌, leng
 use Rattle.std.specs.Fmt.{signed_decimal}
 use Rattle.toml.specs.Data.{Data, string, integer, float, boolean, datetime, array, table, Members}
 use Rattle.cl_text.specs.Line.{line}
-use Rattle.cl_model.specs.declared.place.Place.{Place}
-use Rattle.cl_model.specs.declared.refusal.Code.{Code}
+use Rattle.cl_model.specs.{declared.{place.Place.Place, refusal.{Code.Code, Refusal.Refusal}, model.SystemModel.SystemModel}, Reading.Checks.members_of}
 use Rattle.cl_model.specs.declared.refusal.Code.TheVariants as code
-use Rattle.cl_model.specs.declared.refusal.Refusal.{Refusal}
-use Rattle.cl_model.specs.declared.model.SystemModel.{SystemModel}
-use Rattle.cl_model.specs.Reading.Checks.{members_of}
-use Rattle.cl_advice.specs.Shown.{shown, quoted}
-use Rattle.cl_advice.specs.Measured.{jitter_found}
-use Rattle.cl_advice.specs.Keys.{refused_key, refused_value}
+use Rattle.cl_advice.specs.{Shown.{shown, quoted}, Measured.jitter_found, Keys.{refused_key, refused_value}}
 
 -- a value of a document
 abbrev pub value_text : Data → List ℕ

@@ -1,13 +1,8 @@
 -- Which runnable of a hop lacks the label that the hop names.
 use Rattle.std.specs.Prelude.{ℕ, Bool, true, false, List, ◌++◌, Option, Some, None, codes}
 use Rattle.std.specs.Option.{option_and_then}
-use Rattle.cl_model.specs.declared.place.Place.{Place}
-use Rattle.cl_model.specs.declared.chain.ChainDef.{ChainDef}
-use Rattle.cl_model.specs.declared.task.RunnableDef.{RunnableDef}
-use Rattle.cl_model.specs.declared.model.SystemModel.{SystemModel}
-use Rattle.cl_model.specs.Named.{has_name}
-use Rattle.cl_advice.specs.declared.with.Sought.TheVariants.{Named}
-use Rattle.cl_advice.specs.With.{item_if, step_name, found_by}
+use Rattle.cl_model.specs.{declared.{place.Place.Place, chain.ChainDef.ChainDef, task.RunnableDef.RunnableDef, model.SystemModel.SystemModel}, Named.has_name}
+use Rattle.cl_advice.specs.{declared.with.Sought.TheVariants.Named, With.{item_if, step_name, found_by}}
 
 -- a runnable of the hop at a place, the writer (0) or the reader (1), and the label
 abbrev pub runnable_of_hop : SystemModel → Place → (behind : ℕ) → Option RunnableDef

@@ -4,18 +4,11 @@ use Rattle.std.specs.List.{list_any}
 use Rattle.std.specs.Option.{option_map, option_and_then}
 use Rattle.std.specs.Str.{bytes_eq}
 use Rattle.toml.specs.Data.{Data, Members, no_members, member, get_member}
-use Rattle.cl_model.specs.declared.place.Part.{Part}
+use Rattle.cl_model.specs.{declared.{place.{Part.Part, Key.Key, Place.Place}, refusal.Code.Code}, Place.key_text, Reading.{top_keys, version_in, Checks.keys_of, Meanings.word_if, Tables.{StimulusForm, stimulus_forms, core_fields, label_fields, task_fields, runnable_fields, chain_fields}}}
+use Rattle.cl_model.specs.Reading.Tables.{requirement_fields}
 use Rattle.cl_model.specs.declared.place.Part.TheVariants as part
-use Rattle.cl_model.specs.declared.place.Key.{Key}
 use Rattle.cl_model.specs.declared.place.Key.TheVariants as key
-use Rattle.cl_model.specs.declared.place.Place.{Place}
-use Rattle.cl_model.specs.declared.refusal.Code.{Code}
 use Rattle.cl_model.specs.declared.refusal.Code.TheVariants as code
-use Rattle.cl_model.specs.Place.{key_text}
-use Rattle.cl_model.specs.Reading.{top_keys, version_in}
-use Rattle.cl_model.specs.Reading.Checks.{keys_of}
-use Rattle.cl_model.specs.Reading.Meanings.{word_if}
-use Rattle.cl_model.specs.Reading.Tables.{StimulusForm, stimulus_forms, core_fields, label_fields, task_fields, runnable_fields, chain_fields, requirement_fields}
 use Rattle.cl_advice.specs.Sites.{table_around, value_in}
 
 -- the keys that a kind of stimulus adds to `name` and `kind`, none where the kind isn't known

@@ -1,13 +1,9 @@
 -- The names that there are, where a model names something that isn't there.
 use Rattle.std.specs.Prelude.{ℕ, nat_lt, if◌then◌else◌, List, [], ◌∷◌, ◌++◌, length, take, flat_map, Option, codes, decimal}
 use Rattle.cl_text.specs.Line.{line}
-use Rattle.cl_model.specs.declared.refusal.Code.{Code}
+use Rattle.cl_model.specs.{declared.{refusal.{Code.Code, Refusal.Refusal}, model.SystemModel.SystemModel}, Named.{core_names, stimulus_names, label_names, chain_names}}
 use Rattle.cl_model.specs.declared.refusal.Code.TheVariants as code
-use Rattle.cl_model.specs.declared.refusal.Refusal.{Refusal}
-use Rattle.cl_model.specs.declared.model.SystemModel.{SystemModel}
-use Rattle.cl_model.specs.Named.{core_names, stimulus_names, label_names, chain_names}
-use Rattle.cl_advice.specs.declared.known.TheConstants.{MOST_KNOWN}
-use Rattle.cl_advice.specs.Measured.{said_if}
+use Rattle.cl_advice.specs.{declared.known.TheConstants.MOST_KNOWN, Measured.said_if}
 
 -- how many there are, where not all are named
 abbrev pub more_text : (count : ℕ) → List ℕ

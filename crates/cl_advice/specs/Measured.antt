@@ -1,26 +1,13 @@
 -- What a number is measured against, where a model that was read is refused for it: another number of the model, with its name.
-use Rattle.std.specs.Prelude.{ℕ, ◌+◌, ◌-◌, ◌*◌, ◌/◌, Bool, ◌&&◌, nat_le, nat_lt, if◌then◌else◌, List, [], ◌++◌, length, Option, codes, decimal}
+use Rattle.std.specs.Prelude.{ℕ, ◌-◌, ◌*◌, ◌/◌, Bool, ◌&&◌, nat_le, nat_lt, if◌then◌else◌, List, [], ◌++◌, length, Option, codes, decimal}
 use Rattle.std.specs.List.{find}
 use Rattle.std.specs.Option.{option_map, option_map_or}
 use Rattle.cl_text.specs.Line.{line}
-use Rattle.cl_model.specs.declared.limits.TheConstants.{MOST_DISTANCES}
-use Rattle.cl_model.specs.declared.place.Place.{Place}
-use Rattle.cl_model.specs.declared.refusal.Code.{Code}
+use Rattle.cl_model.specs.declared.{limits.TheConstants.MOST_DISTANCES, place.Place.Place, refusal.{Code.Code, Refusal.Refusal}, chain.ChainDef.ChainDef, stimulus.{StimulusDef.StimulusDef, StimulusKind.{StimulusKind, TheVariants.{Periodic, Sporadic, Burst}}}, task.RunnableDef.RunnableDef}
+use Rattle.cl_model.specs.{declared.{task.TaskDef.TaskDef, model.SystemModel.SystemModel}, Named.{same_name, is_some_and}, Timing.{least_distance, greatest_jitter, deadline_under}, ValidTasks.spans_too_many}
 use Rattle.cl_model.specs.declared.refusal.Code.TheVariants as code
-use Rattle.cl_model.specs.declared.refusal.Refusal.{Refusal}
-use Rattle.cl_model.specs.declared.chain.ChainDef.{ChainDef}
-use Rattle.cl_model.specs.declared.stimulus.StimulusDef.{StimulusDef}
-use Rattle.cl_model.specs.declared.stimulus.StimulusKind.{StimulusKind}
-use Rattle.cl_model.specs.declared.stimulus.StimulusKind.TheVariants.{Periodic, Sporadic, Burst}
-use Rattle.cl_model.specs.declared.task.RunnableDef.{RunnableDef}
-use Rattle.cl_model.specs.declared.task.TaskDef.{TaskDef}
-use Rattle.cl_model.specs.declared.model.SystemModel.{SystemModel}
-use Rattle.cl_model.specs.Named.{same_name, is_some_and}
-use Rattle.cl_model.specs.Timing.{least_distance, greatest_jitter, deadline_under}
-use Rattle.cl_model.specs.ValidTasks.{spans_too_many}
-use Rattle.cl_advice.specs.declared.measured.Said.{Said}
+use Rattle.cl_advice.specs.{declared.measured.Said.Said, With.{item_if, task_of_place, runnable_of_place}}
 use Rattle.cl_advice.specs.declared.measured.Said.TheVariants as said
-use Rattle.cl_advice.specs.With.{item_if, task_of_place, runnable_of_place}
 
 -- what is said of something, and nothing where it isn't there
 abbrev pub said_if : {X : Type 0} → (X → List ℕ) → Option X → List ℕ

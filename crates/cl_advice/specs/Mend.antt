@@ -4,26 +4,12 @@ use Rattle.std.specs.Option.{option_map, option_and_then, option_or}
 use Rattle.std.specs.Str.{bytes_eq}
 use Rattle.toml.specs.Data.{Data, string, Members}
 use Rattle.cl_text.specs.Line.{line}
-use Rattle.cl_model.specs.declared.place.Part.{Part}
+use Rattle.cl_model.specs.{declared.{place.{Part.Part, Key.Key, Place.Place}, refusal.{Code.Code, Refusal.Refusal}, model.SystemModel.SystemModel}, Place.key_text, Reading.{version_in, Checks.keys_of, Tables.{task_fields, runnable_fields}}}
 use Rattle.cl_model.specs.declared.place.Part.TheVariants as part
-use Rattle.cl_model.specs.declared.place.Key.{Key}
 use Rattle.cl_model.specs.declared.place.Key.TheVariants as key
-use Rattle.cl_model.specs.declared.place.Place.{Place}
-use Rattle.cl_model.specs.declared.refusal.Code.{Code}
 use Rattle.cl_model.specs.declared.refusal.Code.TheVariants as code
-use Rattle.cl_model.specs.declared.refusal.Refusal.{Refusal}
-use Rattle.cl_model.specs.declared.model.SystemModel.{SystemModel}
-use Rattle.cl_model.specs.Place.{key_text}
-use Rattle.cl_model.specs.Reading.{version_in}
-use Rattle.cl_model.specs.Reading.Checks.{keys_of}
-use Rattle.cl_model.specs.Reading.Tables.{task_fields, runnable_fields}
-use Rattle.cl_advice.specs.declared.want.Want.{Want}
+use Rattle.cl_advice.specs.{declared.want.Want.Want, Sites.value_in, Keys.{is_listed, unknown_key}, Hop.lacking_text, Unread.unread_mend, Wanted.want_at}
 use Rattle.cl_advice.specs.declared.want.Want.TheVariants as want
-use Rattle.cl_advice.specs.Sites.{value_in}
-use Rattle.cl_advice.specs.Keys.{is_listed, unknown_key}
-use Rattle.cl_advice.specs.Hop.{lacking_text}
-use Rattle.cl_advice.specs.Unread.{unread_mend}
-use Rattle.cl_advice.specs.Wanted.{want_at}
 
 -- ---- an unknown key
 

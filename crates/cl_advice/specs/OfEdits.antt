@@ -2,20 +2,10 @@
 use Rattle.std.specs.Prelude.{ℕ, ◌+◌, List, [], ◌++◌, Option, Some, None, codes, decimal}
 use Rattle.std.specs.Option.{option_map}
 use Rattle.cl_text.specs.Line.{line}
-use Rattle.cl_model.specs.declared.place.Part.{Part}
+use Rattle.cl_model.specs.{declared.{place.{Part.Part, Place.Place}, refusal.{Code.Code, Refusal.Refusal}, model.SystemModel.SystemModel}, Place.{part_text, key_text}}
 use Rattle.cl_model.specs.declared.place.Part.TheVariants as part
-use Rattle.cl_model.specs.declared.place.Place.{Place}
-use Rattle.cl_model.specs.declared.refusal.Code.{Code}
 use Rattle.cl_model.specs.declared.refusal.Code.TheVariants as code
-use Rattle.cl_model.specs.declared.refusal.Refusal.{Refusal}
-use Rattle.cl_model.specs.declared.model.SystemModel.{SystemModel}
-use Rattle.cl_model.specs.Place.{part_text, key_text}
-use Rattle.cl_advice.specs.Found.{shown_key_line}
-use Rattle.cl_advice.specs.Known.{known_line}
-use Rattle.cl_advice.specs.Measured.{said_if, measured_line}
-use Rattle.cl_advice.specs.Mend.{code_mend, mended_line, handed_or_both}
-use Rattle.cl_advice.specs.Wanted.{limit_text, section_want, want_line}
-use Rattle.cl_advice.specs.With.{item_if, runnable_of_place, with_lines}
+use Rattle.cl_advice.specs.{Found.shown_key_line, Known.known_line, Measured.{said_if, measured_line}, Mend.{code_mend, mended_line, handed_or_both}, Wanted.{limit_text, section_want, want_line}, With.{item_if, runnable_of_place, with_lines}}
 
 -- ---- names
 

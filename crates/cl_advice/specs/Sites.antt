@@ -2,11 +2,8 @@
 use Rattle.std.specs.Prelude.{ℕ, if◌then◌else◌, Option, Some, None, is_some}
 use Rattle.std.specs.Option.{option_and_then}
 use Rattle.toml.specs.Data.{Data, Members, get_member, get, at, as_table}
-use Rattle.cl_model.specs.declared.place.Part.{Part}
-use Rattle.cl_model.specs.declared.place.Key.{Key}
+use Rattle.cl_model.specs.{declared.place.{Part.Part, Key.Key, Place.Place}, Place.{part_text, key_text}}
 use Rattle.cl_model.specs.declared.place.Key.TheVariants as key
-use Rattle.cl_model.specs.declared.place.Place.{Place}
-use Rattle.cl_model.specs.Place.{part_text, key_text}
 
 -- the section of a part
 abbrev pub section_in : Members → Part → Option Data

@@ -5,9 +5,8 @@ use Rattle.std.specs.Option.{option_or}
 use Rattle.std.specs.Str.{bytes_eq}
 use Rattle.toml.specs.Parse.{skip_bom}
 use Rattle.cl_text.specs.Line.{line}
-use Rattle.cl_model.specs.declared.place.Part.{Part}
+use Rattle.cl_model.specs.{declared.place.Part.Part, Place.part_text}
 use Rattle.cl_model.specs.declared.place.Part.TheVariants as part
-use Rattle.cl_model.specs.Place.{part_text}
 use Rattle.cl_advice.specs.Shown.{shown}
 
 -- a blank, or the end of a line

@@ -4,21 +4,12 @@ use Rattle.std.specs.Option.{option_map}
 use Rattle.toml.specs.Data.{Members}
 use Rattle.cl_text.specs.Line.{line}
 use Rattle.cl_model.specs.declared.limits.TheConstants.{MOST_TICKS, MOST_REQUIRED, MOST_PRIORITY, MOST_CORES, MOST_STIMULI, MOST_LABELS, MOST_TASKS, MOST_RUNNABLES, MOST_ACCESSES, MOST_CHAINS, MOST_STEPS, MOST_HOPS, MOST_REQUIREMENTS, LEAST_JOBS_OF_BURST, MOST_JOBS_OF_BURST}
-use Rattle.cl_model.specs.declared.place.Part.{Part}
+use Rattle.cl_model.specs.{declared.{place.{Part.Part, Key.Key, Place.Place}, refusal.{Code.Code, Refusal.Refusal}}, Place.key_text, Reading.{version_in, Tables.{access_words, stimulus_forms, requirement_words}}}
 use Rattle.cl_model.specs.declared.place.Part.TheVariants as part
-use Rattle.cl_model.specs.declared.place.Key.{Key}
 use Rattle.cl_model.specs.declared.place.Key.TheVariants as key
-use Rattle.cl_model.specs.declared.place.Place.{Place}
-use Rattle.cl_model.specs.declared.refusal.Code.{Code}
 use Rattle.cl_model.specs.declared.refusal.Code.TheVariants as code
-use Rattle.cl_model.specs.declared.refusal.Refusal.{Refusal}
-use Rattle.cl_model.specs.Place.{key_text}
-use Rattle.cl_model.specs.Reading.{version_in}
-use Rattle.cl_model.specs.Reading.Tables.{access_words, stimulus_forms, requirement_words}
-use Rattle.cl_advice.specs.declared.want.Want.{Want}
+use Rattle.cl_advice.specs.{declared.want.Want.Want, Sites.table_around, Keys.known_keys}
 use Rattle.cl_advice.specs.declared.want.Want.TheVariants as want
-use Rattle.cl_advice.specs.Sites.{table_around}
-use Rattle.cl_advice.specs.Keys.{known_keys}
 
 -- ---- what a place asks for
 

@@ -1,14 +1,9 @@
 -- What a key asks for by its field's check.
 use Rattle.std.specs.Prelude.{◌≡◌, ℕ, List}
 use Rattle.toml.specs.Data.{Members}
-use Rattle.cl_model.specs.declared.place.Part.{Part}
-use Rattle.cl_model.specs.declared.place.Place.{Place}
-use Rattle.cl_model.specs.declared.refusal.Refusal.{Refusal}
-use Rattle.cl_model.specs.Reading.Checks.{Check, Field, a_name, a_number, a_boolean, a_word, an_array, a_table}
-use Rattle.cl_model.specs.Reading.Tables.{access_words, stimulus_forms, requirement_words}
-use Rattle.cl_advice.specs.declared.want.Want.{Want}
+use Rattle.cl_model.specs.{declared.{place.{Part.Part, Place.Place}, refusal.Refusal.Refusal}, Reading.{Checks.{Check, Field, a_name, a_number, a_boolean, a_word, an_array, a_table}, Tables.{access_words, stimulus_forms, requirement_words}}}
+use Rattle.cl_advice.specs.{declared.want.Want.Want, Wanted.key_want}
 use Rattle.cl_advice.specs.declared.want.Want.TheVariants as want
-use Rattle.cl_advice.specs.Wanted.{key_want}
 
 -- the check is that of a kind of value: its range, its words or its limit; the word of the format has no field
 abbrev pub IsCheckOf : Want → Check → Type 0

@@ -3,21 +3,11 @@ use Rattle.std.specs.Prelude.{ℕ, ◌+◌, Bool, ◌&&◌, ◌==◌, List, [], 
 use Rattle.std.specs.List.{find}
 use Rattle.std.specs.Option.{option_map, option_and_then}
 use Rattle.cl_text.specs.Line.{line}
-use Rattle.cl_model.specs.declared.place.Part.{Part}
+use Rattle.cl_model.specs.{declared.{place.{Part.Part, Key.Key, Place.Place}, refusal.{Code.Code, Refusal.Refusal}, task.{RunnableDef.RunnableDef, TaskDef.TaskDef}, model.SystemModel.SystemModel}, Named.{same_name, has_name, all_runnables}, Place.part_text}
 use Rattle.cl_model.specs.declared.place.Part.TheVariants as part
-use Rattle.cl_model.specs.declared.place.Key.{Key}
 use Rattle.cl_model.specs.declared.place.Key.TheVariants as key
-use Rattle.cl_model.specs.declared.place.Place.{Place}
-use Rattle.cl_model.specs.declared.refusal.Code.{Code}
 use Rattle.cl_model.specs.declared.refusal.Code.TheVariants as code
-use Rattle.cl_model.specs.declared.refusal.Refusal.{Refusal}
-use Rattle.cl_model.specs.declared.task.RunnableDef.{RunnableDef}
-use Rattle.cl_model.specs.declared.task.TaskDef.{TaskDef}
-use Rattle.cl_model.specs.declared.model.SystemModel.{SystemModel}
-use Rattle.cl_advice.specs.declared.with.Sought.{Sought}
-use Rattle.cl_advice.specs.declared.with.Sought.TheVariants.{Writer, Named}
-use Rattle.cl_model.specs.Named.{same_name, has_name, all_runnables}
-use Rattle.cl_model.specs.Place.{part_text}
+use Rattle.cl_advice.specs.declared.with.Sought.{Sought, TheVariants.{Writer, Named}}
 
 -- the item of a list at a number, where there are both
 abbrev pub item_if : {X : Type 0} → List X → Option ℕ → Option X

@@ -1,9 +1,7 @@
 //! What to mend in a refused model file.
 ghost use Rattle.std.specs.Prelude.{◌≡◌, ◌≤◌, ◌++◌, length, OnOk, IfSome};
 ghost use Rattle.std.specs.Option.{option_copied};
-ghost use Rattle.toml.specs.Errors.{IsWithin};
-ghost use Rattle.toml.specs.Parse.{parse_document};
-ghost use Rattle.toml.specs.View.{table_view};
+ghost use Rattle.toml.specs.{Errors.IsWithin, Parse.parse_document, View.table_view};
 ghost use Rattle.cl_model.specs.Ranges.{IsInRange};
 ghost use Rattle.cl_advice.specs.Advice.{advice_text, AddsUnread, AddsAdvised, AddsOf, AddsAdvice};
 

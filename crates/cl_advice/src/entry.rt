@@ -1,7 +1,6 @@
 //! The lines of the entry and of the runnable that contain a place.
 ghost use Rattle.std.specs.Prelude.{◌≡◌, ◌++◌, Some, OnOk, option_map};
-ghost use Rattle.toml.specs.Data.{string};
-ghost use Rattle.toml.specs.View.{view, table_view};
+ghost use Rattle.toml.specs.{Data.string, View.{view, table_view}};
 ghost use Rattle.cl_advice.specs.Entry.{name_or_dash, table_name, numbered_words, entry_line, runnable_line};
 
 use crate::sites::{entry_in, runnable_around};

@@ -4,8 +4,7 @@ ghost use Rattle.std.specs.Option.{option_copied};
 ghost use Rattle.std.specs.Fmt.{signed_decimal};
 ghost use Rattle.toml.specs.View.{view, table_view};
 ghost use Rattle.cl_model.specs.Ranges.{IsInRange};
-ghost use Rattle.cl_advice.specs.Keys.{refused_value};
-ghost use Rattle.cl_advice.specs.Found.{value_text, shown_key_line, key_line, value_line, found_line};
+ghost use Rattle.cl_advice.specs.{Keys.refused_value, Found.{value_text, shown_key_line, key_line, value_line, found_line}};
 
 use crate::keys::{refused_key, refused_value};
 use crate::measured::put_jitter_found;

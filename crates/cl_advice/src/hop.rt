@@ -1,10 +1,8 @@
 //! Which runnable of a hop lacks the label that the hop names.
 ghost use Rattle.std.specs.Prelude.{◌≡◌, ◌<◌, ◌++◌, OnOk, codes};
 ghost use Rattle.std.specs.Option.{option_copied, option_or};
-ghost use Rattle.cl_model.specs.Named.{has_name};
-ghost use Rattle.cl_advice.specs.Hop.{runnable_of_hop, label_of_hop, lacking_words, lacking_between};
-ghost use Rattle.cl_advice.specs.Mend.{code_mend, mended_line, handed_or_both};
-ghost use Rattle.cl_model.specs.declared.refusal.Code.TheVariants.{M45};
+ghost use Rattle.cl_model.specs.{Named.has_name, declared.refusal.Code.TheVariants.M45};
+ghost use Rattle.cl_advice.specs.{Hop.{runnable_of_hop, label_of_hop, lacking_words, lacking_between}, Mend.{code_mend, mended_line, handed_or_both}};
 
 use crate::with::{Sought, found_by, item_if, step_name};
 use cl_model::{List, Name, Place, RunnableDef, SystemModel};

@@ -5,10 +5,7 @@ ghost use Rattle.std.specs.Option.{option_copied};
 ghost use Rattle.toml.specs.View.{view, table_view};
 ghost use Rattle.cl_model.specs.declared.place.Key.TheVariants as key;
 ghost use Rattle.cl_model.specs.declared.place.Part.TheVariants as part;
-ghost use Rattle.cl_model.specs.Place.{key_text};
-ghost use Rattle.cl_model.specs.Reading.{top_keys, version_in};
-ghost use Rattle.cl_model.specs.Reading.Checks.{keys_of, meaning_of};
-ghost use Rattle.cl_model.specs.Reading.Tables.{stimulus_forms, task_fields, runnable_fields};
+ghost use Rattle.cl_model.specs.{Place.key_text, Reading.{top_keys, version_in, Checks.{keys_of, meaning_of}, Tables.{stimulus_forms, task_fields, runnable_fields}}};
 ghost use Rattle.cl_advice.specs.Keys.{form_keys, part_keys, known_keys, is_listed, unknown_among, unknown_key, unknown_value, refused_key, refused_value};
 
 use crate::sites::{table_around, value_at, value_in};

@@ -1,8 +1,7 @@
 //! The line of the names that there are.
 ghost use Rattle.std.specs.Prelude.{◌≡◌, ◌++◌, OnOk, map, flat_map, take, codes};
 ghost use Rattle.std.specs.Option.{option_copied};
-ghost use Rattle.cl_advice.specs.declared.known.TheConstants.{MOST_KNOWN};
-ghost use Rattle.cl_advice.specs.Known.{more_text, known_names, known_by, known_line};
+ghost use Rattle.cl_advice.specs.{declared.known.TheConstants.MOST_KNOWN, Known.{more_text, known_names, known_by, known_line}};
 
 use cl_model::{Code, Named, Refusal, SystemModel};
 use cl_text::Text;

@@ -2,26 +2,12 @@
 ghost use Rattle.std.specs.Prelude.{◌≡◌, ℕ, ◌+◌, ◌<◌, ◌≤◌, ◌==◌, true, false, List, [], ◌∷◌, ◌++◌, All, Contains, length, take, slice_index_or, flat_map, Option, IfSome, IsSome, IsSomeAnd};
 ghost use Rattle.std.specs.List.{AllPass, list_any};
 ghost use Rattle.toml.specs.Data.{Members, get_member};
-ghost use Rattle.cl_model.specs.declared.model.SystemModel.{SystemModel};
-ghost use Rattle.cl_model.specs.declared.place.Key.{Key};
+ghost use Rattle.cl_model.specs.{declared.{model.SystemModel.SystemModel, place.Key.Key, refusal.Refusal.Refusal, task.TaskDef.TaskDef}, AreNamed.AreNamed, Named.{has_name, tasks_on, all_runnables, labels_written}, Reading.{sections, Checks.has_only, Tables.core_fields}};
+ghost use Rattle.cl_model.specs.Reading.Tables.{stimulus_fields, periodic_form, sporadic_form, burst_form, label_fields, task_fields, runnable_fields, chain_fields, requirement_fields};
 ghost use Rattle.cl_model.specs.declared.place.Part.TheVariants as part;
-ghost use Rattle.cl_model.specs.declared.refusal.Refusal.{Refusal};
-ghost use Rattle.cl_model.specs.declared.task.TaskDef.{TaskDef};
-ghost use Rattle.cl_model.specs.AreNamed.{AreNamed};
-ghost use Rattle.cl_model.specs.Named.{has_name, tasks_on, all_runnables, labels_written};
-ghost use Rattle.cl_model.specs.Reading.{sections};
-ghost use Rattle.cl_model.specs.Reading.Checks.{has_only};
-ghost use Rattle.cl_model.specs.Reading.Tables.{core_fields, stimulus_fields, periodic_form, sporadic_form, burst_form, label_fields, task_fields, runnable_fields, chain_fields, requirement_fields};
-ghost use Rattle.cl_advice.specs.declared.shown.TheConstants.{MOST_SHOWN, MOST_QUOTED};
+ghost use Rattle.cl_advice.specs.{declared.shown.TheConstants.{MOST_SHOWN, MOST_QUOTED}, Shown.{is_printable, is_printed, shown_byte, shown, quoted}, Keys.{is_listed, unknown_among}, Wanted.section_want, WantsOfFields.AsksByCheck, With.{rival_of, writer_of}, OfEdits.edit_advice_text};
+ghost use Rattle.cl_advice.specs.{Unread.unread_text, Advice.{advice_text, at_line}};
 ghost use Rattle.cl_advice.specs.declared.want.Want.TheVariants as want;
-ghost use Rattle.cl_advice.specs.Shown.{is_printable, is_printed, shown_byte, shown, quoted};
-ghost use Rattle.cl_advice.specs.Keys.{is_listed, unknown_among};
-ghost use Rattle.cl_advice.specs.Wanted.{section_want};
-ghost use Rattle.cl_advice.specs.WantsOfFields.{AsksByCheck};
-ghost use Rattle.cl_advice.specs.With.{rival_of, writer_of};
-ghost use Rattle.cl_advice.specs.OfEdits.{edit_advice_text};
-ghost use Rattle.cl_advice.specs.Unread.{unread_text};
-ghost use Rattle.cl_advice.specs.Advice.{advice_text, at_line};
 
 /// Bytes of a file are shown in printable ASCII alone and in at most `MOST_SHOWN + 2` bytes, in
 /// quotes or without. Without quotes they are shown whole where that takes at most `MOST_SHOWN`

@@ -2,7 +2,8 @@
 ghost use Rattle.std.specs.Prelude.{◌≡◌, ◌/◌, ◌++◌, OnOk, IfSome, find};
 ghost use Rattle.std.specs.Option.{option_copied};
 ghost use Rattle.cl_model.specs.Ranges.{IsKindInRange, IsInRange};
-ghost use Rattle.cl_advice.specs.Measured.{below_period_line, offset_line, greatest_distance_line, fitting_text, burst_line, stimulus_with, kind_for, deadline_line, found_jitter_line, jitter_line, spans, span_line, spanned_line, greatest_time_line, lengths_line, line_of_stimulus, line_of_task, measured_by, measured_line, jitter_found};
+ghost use Rattle.cl_advice.specs.Measured.{below_period_line, offset_line, greatest_distance_line, fitting_text, burst_line, stimulus_with, kind_for, deadline_line, found_jitter_line, jitter_line, spans, span_line, spanned_line, greatest_time_line, lengths_line, line_of_stimulus};
+ghost use Rattle.cl_advice.specs.Measured.{line_of_task, measured_by, measured_line, jitter_found};
 
 use crate::sentence::{put_named, put_numbered};
 use crate::with::{item_if, runnable_of};

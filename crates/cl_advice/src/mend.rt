@@ -2,10 +2,8 @@
 ghost use Rattle.std.specs.Prelude.{◌≡◌, ◌++◌, ◌==◌, ◌&&◌, nat_le, Some, codes, option_map, OnOk};
 ghost use Rattle.std.specs.Option.{option_copied};
 ghost use Rattle.toml.specs.View.{view, table_view};
-ghost use Rattle.cl_advice.specs.Mend.{runnable_key_mend, task_key_mend, plural_mend, top_key_mend, part_key_mend, unknown_mend, section_mend, array_mend, kind_mend, says_word, word_mend, code_mend, mend_text, mended_line, mend_line};
-ghost use Rattle.cl_model.specs.declared.refusal.Code.TheVariants.{M4};
-ghost use Rattle.cl_model.specs.Reading.{version_in};
-ghost use Rattle.cl_advice.specs.Sites.{value_in};
+ghost use Rattle.cl_advice.specs.{Mend.{runnable_key_mend, task_key_mend, plural_mend, top_key_mend, part_key_mend, unknown_mend, section_mend, array_mend, kind_mend, says_word, word_mend, code_mend, mend_text, mended_line, mend_line}, Sites.value_in};
+ghost use Rattle.cl_model.specs.{declared.refusal.Code.TheVariants.M4, Reading.version_in};
 
 use crate::hop::put_handed;
 use crate::keys::{is_listed, runnable_keys, task_keys, unknown_key, version_in};

@@ -2,9 +2,7 @@
 ghost use Rattle.std.specs.Prelude.{◌≡◌, ◌++◌, OnOk, IfSome};
 ghost use Rattle.std.specs.Option.{option_copied};
 ghost use Rattle.cl_model.specs.Ranges.{IsInRange};
-ghost use Rattle.cl_advice.specs.Mend.{mended_line};
-ghost use Rattle.cl_advice.specs.OfEdits.{entry_name, named_words, named_entry_line, named_runnable_line, named_lines, full_line, edit_mend, edit_advice_text};
-ghost use Rattle.cl_advice.specs.Measured.{said_if};
+ghost use Rattle.cl_advice.specs.{Mend.mended_line, OfEdits.{entry_name, named_words, named_entry_line, named_runnable_line, named_lines, full_line, edit_mend, edit_advice_text}, Measured.said_if};
 
 use crate::found::put_key_word;
 use crate::hop::put_handed;

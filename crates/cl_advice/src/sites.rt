@@ -1,7 +1,6 @@
 //! The values at places of a document.
 ghost use Rattle.std.specs.Prelude.{◌≡◌, option_map};
-ghost use Rattle.toml.specs.View.{view, table_view};
-ghost use Rattle.toml.specs.Data.{get_member, at, get, as_table};
+ghost use Rattle.toml.specs.{View.{view, table_view}, Data.{get_member, at, get, as_table}};
 ghost use Rattle.std.specs.Option.{option_and_then};
 ghost use Rattle.cl_model.specs.Place.{key_text};
 ghost use Rattle.cl_advice.specs.Sites.{section_in, entry_in, runnables_around, runnable_around, table_around, value_around, value_of_key, member_if, value_with, value_in};

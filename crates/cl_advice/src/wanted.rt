@@ -1,8 +1,7 @@
 //! The line of what is wanted where a model file is refused.
 ghost use Rattle.std.specs.Prelude.{◌≡◌, ◌++◌, ◌∷◌, Some, map, flat_map, codes, OnOk};
 ghost use Rattle.toml.specs.View.{table_view};
-ghost use Rattle.cl_model.specs.Place.{key_text};
-ghost use Rattle.cl_model.specs.declared.refusal.Code.TheVariants.{M4};
+ghost use Rattle.cl_model.specs.{Place.key_text, declared.refusal.Code.TheVariants.M4};
 ghost use Rattle.cl_advice.specs.declared.want.Want.TheVariants as want;
 ghost use Rattle.cl_advice.specs.Wanted.{joined, one_of, range_text, want_text, limit_text, want_line, wanted_line};
 

@@ -1,28 +1,15 @@
 -- The lists of answers, one answer after the other.
-use Rattle.std.proofs.Common.{◌≡◌, ℕ, ◌+◌, ◌<◌, ◌≤◌, List, [], ◌∷◌, ◌++◌, length, get_or, take, map, refl, sym, ap, subst, ◌∙◌, arith, below_more, length-append, inl, inr}
-use Rattle.std.proofs.lemmas.List.{take_more, take_all, get_or-map, get_or_append_left, get_or_past}
+use Rattle.std.proofs.Common.{◌≡◌, ℕ, ◌+◌, ◌<◌, List, [], ◌∷◌, ◌++◌, length, get_or, take, map, refl, sym, ap, subst, ◌∙◌, arith, below_more, length-append, inl, inr}
+use Rattle.std.proofs.lemmas.List.{take_more, get_or-map, get_or_append_left, get_or_past}
 use Rattle.std.proofs.lemmas.Option.{none-some, slice_get_cases}
 use Rattle.std.proofs.Math.Seq.{get_or-append_seam}
 use Rattle.std.proofs.Math.ListN.{length-map}
-use Rattle.cl_model.specs.declared.model.SystemModel.{SystemModel}
+use Rattle.cl_model.specs.{declared.{model.SystemModel.SystemModel, chain.ChainDef.ChainDef}, Groups.{steps_of, groups_of}, ByNumber.no_chain}
 use Rattle.std.specs.Prelude.{Option, Some, None, slice_get}
-use Rattle.cl_model.specs.declared.chain.ChainDef.{ChainDef}
-use Rattle.cl_model.specs.Groups.{steps_of, groups_of}
-use Rattle.cl_model.specs.ByNumber.{no_chain}
-use Rattle.cl_runs.specs.TaskTiming.{no_timing, timing_at}
-use Rattle.cl_runs.specs.SystemOf.{system_of}
-use Rattle.cl_runs.proofs.ModelSystem.{count_is}
-use Rattle.cl_runs.specs.Requirements.{no_requirement}
-use Rattle.cl_bound.specs.declared.answer.TaskAnswer.{TaskAnswer}
-use Rattle.cl_bound.specs.Answers.{answer_to, answers_of}
-use Rattle.cl_bound.specs.Bounds.{Lengths, bounds_of}
-use Rattle.cl_analyse.specs.declared.findings.ChainAnswer.{ChainAnswer}
-use Rattle.cl_analyse.specs.declared.findings.ChainAnswer.TheVariants.{Bounds, Late}
-use Rattle.cl_analyse.specs.declared.findings.ExactAnswer.{ExactAnswer}
-use Rattle.cl_analyse.specs.declared.findings.ExactAnswer.TheVariants.{ChainLate}
-use Rattle.cl_analyse.specs.declared.findings.Verdict.{Verdict}
-use Rattle.cl_analyse.specs.ChainAnswers.{first_late, chain_answer, chain_answer_of, chain_answers_of, exact_answer_at, IsExactAnswer, AreExactAnswers}
-use Rattle.cl_analyse.specs.Verdicts.{verdict_of, verdicts_of}
+use Rattle.cl_runs.specs.{SystemOf.system_of, Requirements.no_requirement}
+use Rattle.cl_bound.specs.{declared.answer.TaskAnswer.TaskAnswer, Answers.answers_of, Bounds.{Lengths, bounds_of}}
+use Rattle.cl_analyse.specs.{declared.findings.{ChainAnswer.{ChainAnswer, TheVariants.{Bounds, Late}}, ExactAnswer.{ExactAnswer, TheVariants.ChainLate}, Verdict.Verdict}, ChainAnswers.{first_late, chain_answer, chain_answer_of, chain_answers_of, exact_answer_at, IsExactAnswer}}
+use Rattle.cl_analyse.specs.{ChainAnswers.AreExactAnswers, Verdicts.{verdict_of, verdicts_of}}
 
 -- one more of a mapped list
 more_mapped : {X Y : Type 0} (f : X → Y) (xs : List X) (n : ℕ) (d : X) (old new : List Y) (next : Y) → n < length xs → old ≡ take n (map f xs)
@@ -31,25 +18,9 @@ more_mapped f xs n d old new next lt was is pushed =
     let within : n < length (map f xs) = rw (length-map xs f) lt in
     pushed ∙ ap (λ l. l ++ next ∷ []) was ∙ ap (λ y. take n (map f xs) ++ y ∷ []) (is ∙ sym (get_or-map f xs n d next lt)) ∙ sym (take_more (map f xs) n next within)
 
-all_mapped : {X Y : Type 0} (f : X → Y) (xs : List X) (n : ℕ) → length xs ≤ n → take n (map f xs) ≡ map f xs
-all_mapped f xs n whole = take_all n (map f xs) (rw (length-map xs f) whole)
-
-pub more_tasks : (model : SystemModel) (n : ℕ) (old new : List TaskAnswer) (next : TaskAnswer) → n < length model.tasks → old ≡ take n (answers_of (system_of model))
-    → next ≡ answer_to (system_of model) (timing_at (system_of model) n) → new ≡ old ++ next ∷ [] → new ≡ take (n + 1) (answers_of (system_of model))
-unfolding answers_of
-more_tasks model n old new next lt was is pushed =
-    more_mapped (answer_to (system_of model)) (system_of model).tasks n no_timing old new next (omega (arith, lt, count_is model)) was is pushed
-
-pub all_tasks : (model : SystemModel) (n : ℕ) → length model.tasks ≤ n → take n (answers_of (system_of model)) ≡ answers_of (system_of model)
-unfolding answers_of
-all_tasks model n whole = all_mapped (answer_to (system_of model)) (system_of model).tasks n (omega (arith, whole, count_is model))
-
 pub more_chains : (model : SystemModel) (n : ℕ) (old new : List ChainAnswer) (next : ChainAnswer) → n < length model.chains → old ≡ take n (map (chain_answer_of model) model.chains)
     → next ≡ chain_answer_of model (get_or model.chains n no_chain) → new ≡ old ++ next ∷ [] → new ≡ take (n + 1) (map (chain_answer_of model) model.chains)
 more_chains model n = more_mapped (chain_answer_of model) model.chains n no_chain
-
-pub all_chains : (model : SystemModel) (n : ℕ) → length model.chains ≤ n → take n (map (chain_answer_of model) model.chains) ≡ map (chain_answer_of model) model.chains
-all_chains model n = all_mapped (chain_answer_of model) model.chains n
 
 -- a look-up finds nothing past the end
 pub nothing_at : {X : Type 0} (xs : List X) (i : ℕ) (d : X) → None ≡ slice_get xs i → get_or xs i d ≡ d
@@ -113,7 +84,3 @@ pub more_verdicts : (model : SystemModel) (chains : List ChainAnswer) (exacts : 
     → old ≡ take n (verdicts_of model chains exacts) → next ≡ verdict_of model chains exacts (get_or model.requirements n no_requirement) → new ≡ old ++ next ∷ []
     → new ≡ take (n + 1) (verdicts_of model chains exacts)
 more_verdicts model chains exacts n = more_mapped (verdict_of model chains exacts) model.requirements n no_requirement
-
-pub all_verdicts : (model : SystemModel) (chains : List ChainAnswer) (exacts : List ExactAnswer) (n : ℕ) → length model.requirements ≤ n
-    → take n (verdicts_of model chains exacts) ≡ verdicts_of model chains exacts
-all_verdicts model chains exacts n = all_mapped (verdict_of model chains exacts) model.requirements n

@@ -1,25 +1,15 @@
 -- The answers on exact lengths: what they say, and that there is but one of each chain.
 use Rattle.std.proofs.Common.{◌≡◌, ◌⊎◌, ℕ, ◌<◌, Bool, true, false, inl, inr, List, length, get_or, sym, ap, ◌∙◌, subst, arith}
 use Rattle.std.proofs.lemmas.List.{ext_get_or}
-use Rattle.cl_model.specs.declared.model.SystemModel.{SystemModel}
-use Rattle.cl_model.specs.declared.group.Group.{Group}
-use Rattle.cl_model.specs.Groups.{groups_at}
-use Rattle.cl_runs.specs.TaskTiming.{System, IsSound}
-use Rattle.cl_runs.specs.SystemOf.{system_of}
+use Rattle.cl_model.specs.{declared.{model.SystemModel.SystemModel, group.Group.Group}, Groups.groups_at}
+use Rattle.cl_runs.specs.{TaskTiming.{System, IsSound}, SystemOf.system_of}
 use Rattle.cl_resp.proofs.BusyWindowTask.{settled_timely}
-use Rattle.cl_bound.specs.Answers.{answers_of, answer_at, response_in}
-use Rattle.cl_bound.specs.SettledChains.{IsSettledChain}
+use Rattle.cl_bound.specs.{Answers.{answers_of, answer_at, response_in}, SettledChains.IsSettledChain}
 use Rattle.cl_bound.proofs.SettledTasks.{settled_task}
-use Rattle.cl_exact.specs.TimedPeriodic.{is_timed_periodic_chain}
-use Rattle.cl_exact.specs.Hyperperiod.{IsWithinLimit, IsPastLimit}
-use Rattle.cl_exact.specs.ExactLengths.{Witnesses, AreExactLengths}
-use Rattle.cl_exact.specs.RunPromises.{HaveResponses}
+use Rattle.cl_exact.specs.{TimedPeriodic.is_timed_periodic_chain, Hyperperiod.{IsWithinLimit, IsPastLimit}, ExactLengths.{Witnesses, AreExactLengths}, RunPromises.HaveResponses}
 use Rattle.cl_exact.proofs.ExactOnce.{exact_unique, hyperperiod_once}
-use Rattle.cl_analyse.specs.declared.findings.ChainAnswer.{ChainAnswer}
+use Rattle.cl_analyse.specs.{declared.findings.{ChainAnswer.ChainAnswer, ExactAnswer.{ExactAnswer, TheVariants.{Exact, Past, NotTimed, ChainLate}}}, ChainAnswers.{exact_answer_at, IsTimelyAnswer, IsExactAnswer, AreExactAnswers}}
 use Rattle.cl_analyse.specs.declared.findings.ChainAnswer.TheVariants as bounded
-use Rattle.cl_analyse.specs.declared.findings.ExactAnswer.{ExactAnswer}
-use Rattle.cl_analyse.specs.declared.findings.ExactAnswer.TheVariants.{Exact, Past, NotTimed, ChainLate}
-use Rattle.cl_analyse.specs.ChainAnswers.{exact_answer_at, IsTimelyAnswer, IsExactAnswer, AreExactAnswers}
 
 -- ---- a chain has one answer
 

@@ -6,14 +6,9 @@ use Rattle.std.specs.Option.{option_map}
 use Rattle.std.proofs.lemmas.Bool.{and_parts, eqb-true}
 use Rattle.std.proofs.lemmas.List.{take_all}
 use Rattle.std.proofs.lemmas.List.Elements.{All-more}
-use Rattle.cl_model.specs.declared.model.SystemModel.{SystemModel}
-use Rattle.cl_model.specs.declared.chain.ChainDef.{ChainDef}
-use Rattle.cl_model.specs.declared.group.Group.{Group}
-use Rattle.cl_model.specs.declared.group.Step.{Step}
-use Rattle.cl_model.specs.Groups.{is_inner, group_of_step, groups_from, groups, steps_of, groups_of}
+use Rattle.cl_model.specs.{declared.{model.SystemModel.SystemModel, chain.ChainDef.ChainDef, group.{Group.Group, Step.Step}}, Groups.{is_inner, group_of_step, groups_from, groups, steps_of, groups_of}}
 use Rattle.cl_runs.proofs.FirstFound.{none_passes, finds_none, finds_first}
-use Rattle.cl_bound.specs.declared.answer.TaskAnswer.{TaskAnswer}
-use Rattle.cl_bound.specs.Answers.{answer_at, is_late, NoneIsLate}
+use Rattle.cl_bound.specs.{declared.answer.TaskAnswer.TaskAnswer, Answers.{answer_at, is_late, NoneIsLate}}
 use Rattle.cl_analyse.specs.ChainAnswers.{first_late}
 
 -- the first task along groups that is late, if there is one

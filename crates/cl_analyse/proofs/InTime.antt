@@ -2,23 +2,13 @@
 use Rattle.std.proofs.Common.{◌≡◌, ℕ, ◌<◌, true, false, None, length, refl, ap, ◌∙◌, subst, arith}
 use Rattle.std.specs.Prelude.{All}
 use Rattle.std.proofs.Math.ListN.{length-map}
-use Rattle.cl_model.specs.declared.model.SystemModel.{SystemModel}
-use Rattle.cl_model.specs.Validity.{IsValid}
-use Rattle.cl_runs.specs.SystemOf.{system_of}
-use Rattle.cl_runs.specs.Responses.{IsTimely}
-use Rattle.cl_runs.specs.Requirements.{MeetsDeadlines, requirement_at, IsKept, IsInTime}
-use Rattle.cl_runs.proofs.ModelSystem.{count_is, system_sound}
-use Rattle.cl_runs.proofs.TimelyTasks.{meets_deadlines}
+use Rattle.cl_model.specs.{declared.model.SystemModel.SystemModel, Validity.IsValid}
+use Rattle.cl_runs.specs.{SystemOf.system_of, Responses.IsTimely, Requirements.{MeetsDeadlines, requirement_at, IsKept, IsInTime}}
+use Rattle.cl_runs.proofs.{ModelSystem.{count_is, system_sound}, TimelyTasks.meets_deadlines}
 use Rattle.cl_resp.proofs.BusyWindowTask.{settled_timely}
-use Rattle.cl_bound.specs.declared.answer.TaskAnswer.{TaskAnswer}
-use Rattle.cl_bound.specs.declared.answer.TaskAnswer.TheVariants.{Late}
-use Rattle.cl_bound.specs.Answers.{answer_to, answers_of, answer_at, is_late, response_in}
+use Rattle.cl_bound.specs.{declared.answer.TaskAnswer.{TaskAnswer, TheVariants.Late}, Answers.{answer_to, answers_of, answer_at, is_late, response_in}}
 use Rattle.cl_bound.proofs.SettledTasks.{settled_task}
-use Rattle.cl_analyse.specs.declared.findings.Findings.{Findings}
-use Rattle.cl_analyse.specs.declared.findings.Verdict.{Verdict}
-use Rattle.cl_analyse.specs.declared.findings.Verdict.TheVariants.{Met, Broken, Unshown}
-use Rattle.cl_analyse.specs.Findings.{AreFindings}
-use Rattle.cl_analyse.specs.Verdicts.{verdict_of, verdict_at, is_met}
+use Rattle.cl_analyse.specs.{declared.findings.{Findings.Findings, Verdict.{Verdict, TheVariants.{Met, Broken, Unshown}}}, Findings.AreFindings, Verdicts.{verdict_of, verdict_at, is_met}}
 use Rattle.cl_analyse.proofs.SafeFindings.{met_found}
 
 -- a verdict that says so is met

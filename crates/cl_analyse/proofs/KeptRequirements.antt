@@ -3,27 +3,12 @@
 use Rattle.std.proofs.Common.{◌≡◌, ◌⊎◌, ℕ, ◌≤◌, Bool, true, false, Option, Some, None, inl, inr, List, refl, nat_le, arith, ◌+◌, ap, ◌<◌}
 use Rattle.std.specs.Prelude.{if◌then◌else◌}
 use Rattle.std.proofs.lemmas.Bool.Decides.{nat_tests}
-use Rattle.cl_model.specs.declared.chain.LengthKind.{LengthKind}
-use Rattle.cl_model.specs.declared.chain.LengthKind.TheVariants.{Reaction, Age, Reduced}
-use Rattle.cl_model.specs.declared.chain.RequirementKind.{RequirementKind}
-use Rattle.cl_model.specs.declared.chain.RequirementKind.TheVariants.{Length, Delay}
-use Rattle.cl_model.specs.declared.group.Group.{Group}
-use Rattle.cl_runs.specs.TaskTiming.{System}
-use Rattle.cl_runs.specs.Run.{Run}
-use Rattle.cl_runs.specs.Chains.{JobChain, chain_length, last_group}
-use Rattle.cl_runs.specs.RunChains.{run_moments}
-use Rattle.cl_runs.specs.Requirements.{IsChainOfKind, IsChainRequired}
-use Rattle.cl_bound.specs.Bounds.{Lengths}
-use Rattle.cl_bound.specs.Promises.{AreAtLeast}
-use Rattle.cl_exact.specs.Hyperperiod.{period_of}
-use Rattle.cl_exact.specs.ExactLengths.{Witnesses, chain_of}
-use Rattle.cl_exact.specs.RunPromises.{AreGreatestIn, AreAttainedIn}
-use Rattle.cl_analyse.specs.declared.findings.ChainAnswer.{ChainAnswer}
+use Rattle.cl_model.specs.declared.{chain.{LengthKind.{LengthKind, TheVariants.{Reaction, Age, Reduced}}, RequirementKind.{RequirementKind, TheVariants.{Length, Delay}}}, group.Group.Group}
+use Rattle.cl_runs.specs.{TaskTiming.System, Run.Run, Chains.{JobChain, chain_length, last_group}, RunChains.run_moments, Requirements.{IsChainOfKind, IsChainRequired}}
+use Rattle.cl_bound.specs.{Bounds.Lengths, Promises.AreAtLeast}
+use Rattle.cl_exact.specs.{Hyperperiod.period_of, ExactLengths.{Witnesses, chain_of}, RunPromises.{AreGreatestIn, AreAttainedIn}}
+use Rattle.cl_analyse.specs.{declared.findings.{ChainAnswer.ChainAnswer, ExactAnswer.{ExactAnswer, TheVariants.{Exact, Past, NotTimed, ChainLate}}, Verdict.TheVariants.{Met, Broken, Unshown}}, Verdicts.{witness_of_kind, limited_bound, required_bound, required_exact, verdict_on}}
 use Rattle.cl_analyse.specs.declared.findings.ChainAnswer.TheVariants as bounded
-use Rattle.cl_analyse.specs.declared.findings.ExactAnswer.{ExactAnswer}
-use Rattle.cl_analyse.specs.declared.findings.ExactAnswer.TheVariants.{Exact, Past, NotTimed, ChainLate}
-use Rattle.cl_analyse.specs.declared.findings.Verdict.TheVariants.{Met, Broken, Unshown}
-use Rattle.cl_analyse.specs.Verdicts.{witness_of_kind, limited_bound, required_bound, required_exact, verdict_on}
 
 -- ---- the value of what is met
 

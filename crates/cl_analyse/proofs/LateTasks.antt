@@ -4,11 +4,8 @@ use Rattle.std.specs.Option.{option_map}
 use Rattle.std.proofs.lemmas.Bool.{true≢false}
 use Rattle.std.proofs.lemmas.List.{get_or-map}
 use Rattle.cl_runs.specs.TaskTiming.{System, timing_at, no_timing, IsSound}
-use Rattle.cl_resp.specs.declared.question.Question.{Question}
-use Rattle.cl_resp.specs.Question.{question_of}
-use Rattle.cl_resp.specs.Response.{busy_window, response_to, HasNoFixpoint}
-use Rattle.cl_resp.proofs.SettledTasks.{tasks_take_time}
-use Rattle.cl_resp.proofs.Windows.{no_window_no_fixpoint, no_fixpoint_no_window}
+use Rattle.cl_resp.specs.{declared.question.Question.Question, Question.question_of, Response.{busy_window, response_to, HasNoFixpoint}}
+use Rattle.cl_resp.proofs.{SettledTasks.tasks_take_time, Windows.{no_window_no_fixpoint, no_fixpoint_no_window}}
 use Rattle.cl_bound.specs.declared.answer.TaskAnswer.TheVariants as answer
 use Rattle.cl_bound.specs.Answers.{answer_with, answer_to, answers_of, answer_at, is_late}
 

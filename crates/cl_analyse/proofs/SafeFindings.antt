@@ -6,53 +6,21 @@ use Rattle.std.proofs.Math.ListN.{length-map}
 use Rattle.std.proofs.Math.Nat.{lt_of_not-le}
 use Rattle.std.proofs.lemmas.List.{get_or-map, get_or_past}
 use Rattle.std.proofs.lemmas.List.Elements.{All-map}
-use Rattle.cl_model.specs.declared.model.SystemModel.{SystemModel}
-use Rattle.cl_model.specs.declared.chain.RequirementDef.{RequirementDef}
-use Rattle.cl_model.specs.declared.group.Step.{Step}
-use Rattle.cl_model.specs.Groups.{step_named, steps_of, no_step, groups_at}
-use Rattle.cl_model.specs.ByNumber.{no_chain, chain_at}
-use Rattle.cl_model.specs.Validity.{IsValid}
-use Rattle.cl_model.proofs.GroupFacts.{groups_at_are}
-use Rattle.cl_model.proofs.StepFacts.{step_is_known}
-use Rattle.cl_model.proofs.NamesKnown.{steps_known}
-use Rattle.cl_runs.specs.SystemOf.{system_of}
-use Rattle.cl_runs.specs.Chains.{last_group}
-use Rattle.cl_runs.proofs.ModelSystem.{count_is, system_sound}
-use Rattle.cl_runs.proofs.Extension.{some_legal}
-use Rattle.cl_runs.specs.Requirements.{IsChainRequired, required_chain, no_requirement, requirement_at, IsKept, IsBroken}
-use Rattle.cl_runs.specs.Responses.{AlwaysFinishesWithin}
-use Rattle.cl_runs.proofs.FirstFound.{first_found}
+use Rattle.cl_model.specs.{declared.{model.SystemModel.SystemModel, chain.RequirementDef.RequirementDef, group.Step.Step}, Groups.{step_named, steps_of, no_step, groups_at}, ByNumber.{no_chain, chain_at}, Validity.IsValid}
+use Rattle.cl_model.proofs.{GroupFacts.groups_at_are, StepFacts.step_is_known, NamesKnown.steps_known}
+use Rattle.cl_runs.specs.{SystemOf.system_of, Chains.last_group, Requirements.{IsChainRequired, required_chain, no_requirement, requirement_at, IsKept, IsBroken}, Responses.AlwaysFinishesWithin}
+use Rattle.cl_runs.proofs.{ModelSystem.{count_is, system_sound}, Extension.some_legal, FirstFound.first_found}
 use Rattle.cl_resp.specs.Response.{Response, IsSettled}
 use Rattle.cl_resp.proofs.BusyWindowTask.{settled_finish}
-use Rattle.cl_bound.specs.declared.answer.TaskAnswer.{TaskAnswer}
+use Rattle.cl_bound.specs.{declared.answer.TaskAnswer.TaskAnswer, Answers.{answers_of, answer_at, is_late, response_in}, Bounds.{Lengths, AreBoundsOf, settled_timings, bounds_of}, Promises.AreSafe, SettledChains.IsSettledChain}
 use Rattle.cl_bound.specs.declared.answer.TaskAnswer.TheVariants as answer
-use Rattle.cl_bound.specs.Answers.{answers_of, answer_at, is_late, response_in}
-use Rattle.cl_bound.specs.Bounds.{Lengths, AreBoundsOf, settled_timings, bounds_of}
-use Rattle.cl_bound.specs.Promises.{AreSafe}
-use Rattle.cl_bound.specs.SettledChains.{IsSettledChain}
-use Rattle.cl_bound.proofs.ModelGroups.{settled_chain}
-use Rattle.cl_bound.proofs.SettledTasks.{settled_task}
-use Rattle.cl_bound.proofs.SettledChains.{settled_sums, settled_safe}
-use Rattle.cl_exact.specs.TimedPeriodic.{is_timed_periodic_chain}
-use Rattle.cl_exact.specs.Hyperperiod.{period_of}
-use Rattle.cl_exact.specs.ExactLengths.{Witnesses, chain_of}
-use Rattle.cl_exact.specs.RunPromises.{AreExactInRuns}
+use Rattle.cl_bound.proofs.{ModelGroups.settled_chain, SettledTasks.settled_task, SettledChains.{settled_sums, settled_safe}}
+use Rattle.cl_exact.specs.{TimedPeriodic.is_timed_periodic_chain, Hyperperiod.period_of, ExactLengths.{Witnesses, chain_of}, RunPromises.AreExactInRuns}
 use Rattle.cl_exact.proofs.RunExact.{model_exact_in_runs}
-use Rattle.cl_analyse.specs.declared.findings.ChainAnswer.{ChainAnswer}
-use Rattle.cl_analyse.specs.declared.findings.ChainAnswer.TheVariants.{Bounds, Late}
-use Rattle.cl_analyse.specs.declared.findings.ExactAnswer.{ExactAnswer}
-use Rattle.cl_analyse.specs.declared.findings.ExactAnswer.TheVariants.{Exact, Past, NotTimed, ChainLate}
-use Rattle.cl_analyse.specs.declared.findings.Verdict.{Verdict}
-use Rattle.cl_analyse.specs.declared.findings.Verdict.TheVariants.{Met, Broken, Unshown}
-use Rattle.cl_analyse.specs.declared.findings.Findings.{Findings}
-use Rattle.cl_analyse.specs.ChainAnswers.{first_late, chain_answer, chain_answer_of, chain_answers_of, chain_answer_at, exact_answer_at, IsTimelyAnswer, IsExactAnswer, AreExactAnswers}
-use Rattle.cl_analyse.specs.Verdicts.{required_bound, required_exact, verdict_of, verdicts_of, verdict_at}
-use Rattle.cl_analyse.specs.Findings.{AreFindings}
+use Rattle.cl_analyse.specs.{declared.findings.{ChainAnswer.{ChainAnswer, TheVariants.{Bounds, Late}}, ExactAnswer.{ExactAnswer, TheVariants.{Exact, Past, NotTimed, ChainLate}}, Verdict.{Verdict, TheVariants.{Met, Broken, Unshown}}, Findings.Findings}, ChainAnswers.first_late}
+use Rattle.cl_analyse.specs.{ChainAnswers.{chain_answer, chain_answer_of, chain_answers_of, chain_answer_at, exact_answer_at, IsTimelyAnswer, IsExactAnswer, AreExactAnswers}, Verdicts.{required_bound, required_exact, verdict_of, verdicts_of, verdict_at}, Findings.AreFindings}
 use Rattle.cl_analyse.specs.Headline.{task_of_step, IsFirstWithoutFixpoint, IsExactBecause, AreWithinBounds, AreSafeFindings}
-use Rattle.cl_analyse.proofs.FirstLate.{settled_groups}
-use Rattle.cl_analyse.proofs.LateTasks.{late_without, timely_with}
-use Rattle.cl_analyse.proofs.ExactAnswers.{one_exacts, settled_have_responses}
-use Rattle.cl_analyse.proofs.KeptRequirements.{met_by, broken_by, kind_attained, required_valued, bound_valued, kind_exact, kind_bound}
+use Rattle.cl_analyse.proofs.{FirstLate.settled_groups, LateTasks.{late_without, timely_with}, ExactAnswers.{one_exacts, settled_have_responses}, KeptRequirements.{met_by, broken_by, kind_attained, required_valued, bound_valued, kind_exact, kind_bound}}
 
 -- ---- the answers
 

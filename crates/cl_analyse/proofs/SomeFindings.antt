@@ -1,21 +1,12 @@
 -- Each valid model has findings.
 use Rattle.std.proofs.Common.{◌≡◌, ℕ, zero, suc, ◌+◌, ◌<◌, ◌≤◌, Bool, true, false, List, [], ◌∷◌, ◌++◌, length, get_or, refl, subst, arith}
-use Rattle.cl_model.specs.declared.model.SystemModel.{SystemModel}
-use Rattle.cl_model.specs.ByNumber.{no_chain}
-use Rattle.cl_model.specs.Validity.{IsValid}
+use Rattle.cl_model.specs.{declared.model.SystemModel.SystemModel, ByNumber.no_chain, Validity.IsValid}
 use Rattle.cl_runs.specs.SystemOf.{system_of}
 use Rattle.cl_bound.specs.Answers.{answers_of}
 use Rattle.cl_exact.specs.TimedPeriodic.{is_timed_periodic_chain}
-use Rattle.cl_analyse.specs.declared.findings.ChainAnswer.{ChainAnswer}
+use Rattle.cl_analyse.specs.{declared.findings.{ChainAnswer.ChainAnswer, ExactAnswer.{ExactAnswer, TheVariants.{NotTimed, ChainLate}}, Findings.Findings}, ChainAnswers.{chain_answer_of, chain_answers_of, IsTimelyAnswer, IsExactAnswer}, Findings.AreFindings, Verdicts.verdicts_of}
 use Rattle.cl_analyse.specs.declared.findings.ChainAnswer.TheVariants as bounded
-use Rattle.cl_analyse.specs.declared.findings.ExactAnswer.{ExactAnswer}
-use Rattle.cl_analyse.specs.declared.findings.ExactAnswer.TheVariants.{NotTimed, ChainLate}
-use Rattle.cl_analyse.specs.declared.findings.Findings.{Findings}
-use Rattle.cl_analyse.specs.ChainAnswers.{chain_answer_of, chain_answers_of, IsTimelyAnswer, IsExactAnswer}
-use Rattle.cl_analyse.specs.Findings.{AreFindings}
-use Rattle.cl_analyse.specs.Verdicts.{verdicts_of}
-use Rattle.cl_analyse.proofs.AnswerLists.{AreFirstExacts, no_exacts, more_exacts, all_exacts}
-use Rattle.cl_analyse.proofs.TimedChains.{some_timed}
+use Rattle.cl_analyse.proofs.{AnswerLists.{AreFirstExacts, no_exacts, more_exacts, all_exacts}, TimedChains.some_timed}
 
 module _ (model : SystemModel) (valid : IsValid model) where
   some_timely : (chain : ℕ) → chain < length model.chains → (timed : Bool) → is_timed_periodic_chain model chain ≡ timed

@@ -1,15 +1,10 @@
 -- Each chain whose tasks are all timed and periodic has an answer.
 use Rattle.std.proofs.Common.{◌≡◌, ℕ, ◌<◌, true, inl, inr, length, refl}
-use Rattle.cl_model.specs.declared.model.SystemModel.{SystemModel}
-use Rattle.cl_model.specs.Groups.{groups_at}
-use Rattle.cl_model.specs.Validity.{IsValid}
+use Rattle.cl_model.specs.{declared.model.SystemModel.SystemModel, Groups.groups_at, Validity.IsValid}
 use Rattle.cl_runs.specs.SystemOf.{system_of}
-use Rattle.cl_exact.specs.TimedPeriodic.{is_timed_periodic_chain}
-use Rattle.cl_exact.specs.Hyperperiod.{hyper_limit}
+use Rattle.cl_exact.specs.{TimedPeriodic.is_timed_periodic_chain, Hyperperiod.hyper_limit}
 use Rattle.cl_exact.proofs.SomeExact.{exact_lengths_exist}
-use Rattle.cl_analyse.specs.declared.findings.ExactAnswer.{ExactAnswer}
-use Rattle.cl_analyse.specs.declared.findings.ExactAnswer.TheVariants.{Exact, Past}
-use Rattle.cl_analyse.specs.ChainAnswers.{IsTimelyAnswer}
+use Rattle.cl_analyse.specs.{declared.findings.ExactAnswer.{ExactAnswer, TheVariants.{Exact, Past}}, ChainAnswers.IsTimelyAnswer}
 
 pub some_timed : (model : SystemModel) → IsValid model → (chain : ℕ) → chain < length model.chains → is_timed_periodic_chain model chain ≡ true
     → (answer : ExactAnswer) × IsTimelyAnswer model chain true answer

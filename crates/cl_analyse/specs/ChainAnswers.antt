@@ -1,22 +1,11 @@
 -- What is found of each chain of a model: its bounds and its exact lengths.
 use Rattle.std.specs.Prelude.{◌≡◌, ℕ, ◌<◌, Bool, true, false, List, length, map, slice_index_or, find, Option, Some, None}
 use Rattle.std.specs.Option.{option_map}
-use Rattle.cl_model.specs.declared.model.SystemModel.{SystemModel}
-use Rattle.cl_model.specs.declared.chain.ChainDef.{ChainDef}
-use Rattle.cl_model.specs.declared.group.Step.{Step}
-use Rattle.cl_model.specs.ByNumber.{chain_at}
-use Rattle.cl_model.specs.Groups.{steps_of, groups_of, groups_at}
+use Rattle.cl_model.specs.{declared.{model.SystemModel.SystemModel, chain.ChainDef.ChainDef, group.Step.Step}, ByNumber.chain_at, Groups.{steps_of, groups_of, groups_at}}
 use Rattle.cl_runs.specs.SystemOf.{system_of}
-use Rattle.cl_bound.specs.declared.answer.TaskAnswer.{TaskAnswer}
-use Rattle.cl_bound.specs.Answers.{answers_of, answer_at, is_late}
-use Rattle.cl_bound.specs.Bounds.{Lengths, bounds_of}
-use Rattle.cl_exact.specs.TimedPeriodic.{is_timed_periodic_chain}
-use Rattle.cl_exact.specs.Hyperperiod.{hyper_limit, IsWithinLimit, IsPastLimit}
-use Rattle.cl_exact.specs.ExactLengths.{AreExactLengths}
-use Rattle.cl_analyse.specs.declared.findings.ChainAnswer.{ChainAnswer}
-use Rattle.cl_analyse.specs.declared.findings.ChainAnswer.TheVariants.{Bounds, Late}
-use Rattle.cl_analyse.specs.declared.findings.ExactAnswer.{ExactAnswer}
-use Rattle.cl_analyse.specs.declared.findings.ExactAnswer.TheVariants.{Exact, Past, NotTimed, ChainLate}
+use Rattle.cl_bound.specs.{declared.answer.TaskAnswer.TaskAnswer, Answers.{answers_of, answer_at, is_late}, Bounds.{Lengths, bounds_of}}
+use Rattle.cl_exact.specs.{TimedPeriodic.is_timed_periodic_chain, Hyperperiod.{hyper_limit, IsWithinLimit, IsPastLimit}, ExactLengths.AreExactLengths}
+use Rattle.cl_analyse.specs.declared.findings.{ChainAnswer.{ChainAnswer, TheVariants.{Bounds, Late}}, ExactAnswer.{ExactAnswer, TheVariants.{Exact, Past, NotTimed, ChainLate}}}
 
 -- ---- bounds
 

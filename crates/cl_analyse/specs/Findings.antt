@@ -4,9 +4,7 @@ use Rattle.std.specs.Prelude.{◌≡◌}
 use Rattle.cl_model.specs.declared.model.SystemModel.{SystemModel}
 use Rattle.cl_runs.specs.SystemOf.{system_of}
 use Rattle.cl_bound.specs.Answers.{answers_of}
-use Rattle.cl_analyse.specs.declared.findings.Findings.{Findings}
-use Rattle.cl_analyse.specs.ChainAnswers.{chain_answers_of, AreExactAnswers}
-use Rattle.cl_analyse.specs.Verdicts.{verdicts_of}
+use Rattle.cl_analyse.specs.{declared.findings.Findings.Findings, ChainAnswers.{chain_answers_of, AreExactAnswers}, Verdicts.verdicts_of}
 
 -- the findings of a model, each list in file order. They are a relation, since exact lengths are; a valid model has one
 -- findings and no other

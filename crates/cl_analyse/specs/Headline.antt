@@ -1,30 +1,11 @@
 -- What the findings of a model promise: the headline.
 use Rattle.std.specs.Prelude.{◌≡◌, ℕ, ◌<◌, ◌≤◌, false, length}
-use Rattle.cl_model.specs.declared.model.SystemModel.{SystemModel}
-use Rattle.cl_model.specs.ByNumber.{chain_at}
-use Rattle.cl_model.specs.Groups.{steps_of, step_at, groups_at}
-use Rattle.cl_runs.specs.TaskTiming.{timing_at}
-use Rattle.cl_runs.specs.SystemOf.{system_of}
-use Rattle.cl_runs.specs.Requirements.{requirement_at, IsKept, IsBroken}
-use Rattle.cl_runs.specs.Responses.{AlwaysFinishesWithin}
-use Rattle.cl_resp.specs.declared.question.Question.{Question}
-use Rattle.cl_resp.specs.Question.{question_of}
-use Rattle.cl_resp.specs.Response.{Response, HasNoFixpoint}
-use Rattle.cl_bound.specs.declared.answer.TaskAnswer.TheVariants.{Settled}
-use Rattle.cl_bound.specs.Answers.{answer_at}
-use Rattle.cl_bound.specs.Bounds.{Lengths}
-use Rattle.cl_bound.specs.Promises.{AreSafe}
-use Rattle.cl_exact.specs.TimedPeriodic.{is_timed_periodic_chain}
-use Rattle.cl_exact.specs.Hyperperiod.{hyper_limit, IsPastLimit}
-use Rattle.cl_exact.specs.ExactLengths.{Witnesses}
-use Rattle.cl_exact.specs.RunPromises.{AreExactInRuns}
-use Rattle.cl_analyse.specs.declared.findings.ChainAnswer.TheVariants.{Bounds, Late}
-use Rattle.cl_analyse.specs.declared.findings.ExactAnswer.{ExactAnswer}
-use Rattle.cl_analyse.specs.declared.findings.ExactAnswer.TheVariants.{Exact, Past, NotTimed, ChainLate}
-use Rattle.cl_analyse.specs.declared.findings.Verdict.TheVariants.{Met, Broken}
-use Rattle.cl_analyse.specs.declared.findings.Findings.{Findings}
-use Rattle.cl_analyse.specs.ChainAnswers.{chain_answer_at, exact_answer_at}
-use Rattle.cl_analyse.specs.Verdicts.{verdict_at}
+use Rattle.cl_model.specs.{declared.model.SystemModel.SystemModel, ByNumber.chain_at, Groups.{steps_of, step_at, groups_at}}
+use Rattle.cl_runs.specs.{TaskTiming.timing_at, SystemOf.system_of, Requirements.{requirement_at, IsKept, IsBroken}, Responses.AlwaysFinishesWithin}
+use Rattle.cl_resp.specs.{declared.question.Question.Question, Question.question_of, Response.{Response, HasNoFixpoint}}
+use Rattle.cl_bound.specs.{declared.answer.TaskAnswer.TheVariants.Settled, Answers.answer_at, Bounds.Lengths, Promises.AreSafe}
+use Rattle.cl_exact.specs.{TimedPeriodic.is_timed_periodic_chain, Hyperperiod.{hyper_limit, IsPastLimit}, ExactLengths.Witnesses, RunPromises.AreExactInRuns}
+use Rattle.cl_analyse.specs.{declared.findings.{ChainAnswer.TheVariants.{Bounds, Late}, ExactAnswer.{ExactAnswer, TheVariants.{Exact, Past, NotTimed, ChainLate}}, Verdict.TheVariants.{Met, Broken}, Findings.Findings}, ChainAnswers.{chain_answer_at, exact_answer_at}, Verdicts.verdict_at}
 
 -- the question of a task of a model
 abbrev pub question_at : SystemModel → (task : ℕ) → Question

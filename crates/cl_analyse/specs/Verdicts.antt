@@ -1,22 +1,12 @@
 -- Requirements: the values that are found for them, and the verdicts.
 use Rattle.std.specs.Prelude.{ℕ, Bool, true, false, List, map, slice_index_or, Option, Some, None, nat_le, if◌then◌else◌}
-use Rattle.cl_model.specs.declared.model.SystemModel.{SystemModel}
-use Rattle.cl_model.specs.declared.chain.LengthKind.{LengthKind}
-use Rattle.cl_model.specs.declared.chain.LengthKind.TheVariants.{Reaction, Age, Reduced}
-use Rattle.cl_model.specs.declared.chain.RequirementKind.{RequirementKind}
-use Rattle.cl_model.specs.declared.chain.RequirementKind.TheVariants.{Length, Delay}
-use Rattle.cl_model.specs.declared.chain.RequirementDef.{RequirementDef}
+use Rattle.cl_model.specs.declared.{model.SystemModel.SystemModel, chain.{LengthKind.{LengthKind, TheVariants.{Reaction, Age, Reduced}}, RequirementKind.{RequirementKind, TheVariants.{Length, Delay}}, RequirementDef.RequirementDef}}
 use Rattle.cl_runs.specs.Requirements.{required_chain}
 use Rattle.cl_bound.specs.Bounds.{Lengths}
-use Rattle.cl_exact.specs.declared.witness.Witness.{Witness}
-use Rattle.cl_exact.specs.ExactLengths.{Witnesses}
-use Rattle.cl_analyse.specs.declared.findings.ChainAnswer.{ChainAnswer}
+use Rattle.cl_exact.specs.{declared.witness.Witness.Witness, ExactLengths.Witnesses}
+use Rattle.cl_analyse.specs.{declared.findings.{ChainAnswer.ChainAnswer, ExactAnswer.ExactAnswer, Verdict.{Verdict, TheVariants.{Met, Broken, Unshown}}}, ChainAnswers.{chain_answer_at, exact_answer_at}}
 use Rattle.cl_analyse.specs.declared.findings.ChainAnswer.TheVariants as bounded
-use Rattle.cl_analyse.specs.declared.findings.ExactAnswer.{ExactAnswer}
 use Rattle.cl_analyse.specs.declared.findings.ExactAnswer.TheVariants as exact
-use Rattle.cl_analyse.specs.declared.findings.Verdict.{Verdict}
-use Rattle.cl_analyse.specs.declared.findings.Verdict.TheVariants.{Met, Broken, Unshown}
-use Rattle.cl_analyse.specs.ChainAnswers.{chain_answer_at, exact_answer_at}
 
 -- ---- kinds of lengths
 

@@ -1,13 +1,9 @@
 //! The analysis of a model. Times are in ticks.
 ghost use Rattle.std.specs.Prelude.{◌≡◌, ◌+◌, ◌*◌, ◌<◌, ◌≤◌, length, slice_index_or, IfOk};
-ghost use Rattle.cl_model.specs.Groups.{steps_of};
-ghost use Rattle.cl_model.specs.ByNumber.{chain_at};
-ghost use Rattle.cl_model.specs.Validity.{IsValid};
+ghost use Rattle.cl_model.specs.{Groups.steps_of, ByNumber.chain_at, Validity.IsValid};
 ghost use Rattle.cl_runs.specs.SystemOf.{system_of};
 ghost use Rattle.cl_bound.specs.Answers.{answers_of, answer_at, is_late};
-ghost use Rattle.cl_analyse.specs.ChainAnswers.{first_late, chain_answer_of, chain_answers_of, OnLate};
-ghost use Rattle.cl_analyse.specs.Findings.{AreFindings};
-ghost use Rattle.cl_analyse.specs.Headline.{AreSafeFindings};
+ghost use Rattle.cl_analyse.specs.{ChainAnswers.{first_late, chain_answer_of, chain_answers_of, OnLate}, Findings.AreFindings, Headline.AreSafeFindings};
 
 use crate::exact_answers::answer_exacts;
 use crate::findings::{ChainAnswer, Findings};

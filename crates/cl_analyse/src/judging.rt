@@ -1,7 +1,6 @@
 //! The verdicts on requirements. Values are in ticks.
 ghost use Rattle.std.specs.Prelude.{◌≡◌, ℕ, Option, map, IfOk};
-ghost use Rattle.cl_analyse.specs.ChainAnswers.{chain_answer_at, exact_answer_at};
-ghost use Rattle.cl_analyse.specs.Verdicts.{required_bound, required_exact, verdict_on, verdict_of, verdicts_of};
+ghost use Rattle.cl_analyse.specs.{ChainAnswers.{chain_answer_at, exact_answer_at}, Verdicts.{required_bound, required_exact, verdict_on, verdict_of, verdicts_of}};
 
 use crate::findings::{ChainAnswer, ExactAnswer, Verdict};
 use cl_model::{List, RequirementDef, RequirementKind, ValidModel};

@@ -1,23 +1,11 @@
 //! What is found of a valid model is safe, is what defines it, and is unique.
 ghost use Rattle.std.specs.Prelude.{◌≡◌, ℕ, ◌<◌, true, false, length, All};
-ghost use Rattle.cl_model.specs.declared.model.SystemModel.{SystemModel};
-ghost use Rattle.cl_model.specs.Groups.{groups_at};
-ghost use Rattle.cl_model.specs.Validity.{IsValid};
-ghost use Rattle.cl_runs.specs.SystemOf.{system_of};
-ghost use Rattle.cl_runs.specs.Requirements.{requirement_at, IsKept, IsBroken, MeetsDeadlines, IsInTime};
-ghost use Rattle.cl_bound.specs.declared.answer.TaskAnswer.{TaskAnswer};
-ghost use Rattle.cl_bound.specs.Answers.{answers_of, is_late};
-ghost use Rattle.cl_bound.specs.Bounds.{Lengths, AreBoundsOf, settled_timings};
+ghost use Rattle.cl_model.specs.{declared.model.SystemModel.SystemModel, Groups.groups_at, Validity.IsValid};
+ghost use Rattle.cl_runs.specs.{SystemOf.system_of, Requirements.{requirement_at, IsKept, IsBroken, MeetsDeadlines, IsInTime}};
+ghost use Rattle.cl_bound.specs.{declared.answer.TaskAnswer.TaskAnswer, Answers.{answers_of, is_late}, Bounds.{Lengths, AreBoundsOf, settled_timings}};
 ghost use Rattle.cl_exact.specs.ExactLengths.{Witnesses};
-ghost use Rattle.cl_analyse.specs.declared.findings.ChainAnswer.TheVariants.{Bounds};
-ghost use Rattle.cl_analyse.specs.declared.findings.ExactAnswer.TheVariants.{Exact};
-ghost use Rattle.cl_analyse.specs.declared.findings.Findings.{Findings};
-ghost use Rattle.cl_analyse.specs.declared.findings.Verdict.{Verdict};
-ghost use Rattle.cl_analyse.specs.declared.findings.Verdict.TheVariants.{Met, Broken};
-ghost use Rattle.cl_analyse.specs.ChainAnswers.{chain_answers_of, chain_answer_at, exact_answer_at};
-ghost use Rattle.cl_analyse.specs.Findings.{AreFindings};
-ghost use Rattle.cl_analyse.specs.Headline.{AreWithinBounds, AreSafeFindings};
-ghost use Rattle.cl_analyse.specs.Verdicts.{verdict_at, is_met};
+ghost use Rattle.cl_analyse.specs.{declared.findings.{ChainAnswer.TheVariants.Bounds, ExactAnswer.TheVariants.Exact, Findings.Findings, Verdict.{Verdict, TheVariants.{Met, Broken}}}, ChainAnswers.{chain_answers_of, chain_answer_at, exact_answer_at}, Findings.AreFindings};
+ghost use Rattle.cl_analyse.specs.{Headline.{AreWithinBounds, AreSafeFindings}, Verdicts.{verdict_at, is_met}};
 
 /// In every legal run of a valid model, of any length, each job of a settled task finishes within
 /// its response. No complete chain is longer than its bound or its exact length, and in each run

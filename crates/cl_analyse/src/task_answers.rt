@@ -1,13 +1,9 @@
 //! The answers to the questions of tasks. Times are in ticks.
 ghost use Rattle.std.specs.Prelude.{◌≡◌, ◌+◌, ◌<◌, ◌≤◌, length, map, replicate, IfOk, IfSome};
 ghost use Rattle.cl_model.specs.Validity.{IsValid};
-ghost use Rattle.cl_runs.specs.SystemOf.{system_of};
-ghost use Rattle.cl_runs.specs.TaskTiming.{timing_at};
-ghost use Rattle.cl_resp.specs.Question.{either_question, IsQuestionInRange};
-ghost use Rattle.cl_resp.specs.Reached.{HasReached};
-ghost use Rattle.cl_resp.specs.Response.{response_to};
-ghost use Rattle.cl_bound.specs.declared.answer.TaskAnswer.TheVariants.{Late as LateAnswer};
-ghost use Rattle.cl_bound.specs.Answers.{answer_with};
+ghost use Rattle.cl_runs.specs.{SystemOf.system_of, TaskTiming.timing_at};
+ghost use Rattle.cl_resp.specs.{Question.{either_question, IsQuestionInRange}, Reached.HasReached, Response.response_to};
+ghost use Rattle.cl_bound.specs.{declared.answer.TaskAnswer.TheVariants.Late as LateAnswer, Answers.answer_with};
 
 use cl_bound::TaskAnswer;
 use cl_model::{List, ValidModel};

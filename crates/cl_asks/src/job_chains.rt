@@ -1,8 +1,7 @@
 //! Questions on the job chains of a legal run, and on when its jobs start and finish. Times are in
 //! ticks.
 ghost use Rattle.std.specs.Prelude.{◌<◌, length};
-ghost use Rattle.cl_runs.specs.SystemOf.{system_of};
-ghost use Rattle.cl_runs.specs.Legal.{IsLegal};
+ghost use Rattle.cl_runs.specs.{SystemOf.system_of, Legal.IsLegal};
 
 use crate::words::{
     chain_at, no_such_number, number_at, put_number, put_numbers, said, task_at, word,

@@ -3,8 +3,7 @@
 ghost use Rattle.std.specs.Prelude.{◌≡◌, ◌<◌, length, Some, None};
 ghost use Rattle.std.specs.Option.{option_map};
 ghost use Rattle.cl_runs.specs.SystemOf.{system_of};
-ghost use Rattle.cl_resp.specs.ByPhase.{response_by_phase, IsSettledByPhase};
-ghost use Rattle.cl_resp.specs.Response.{Response};
+ghost use Rattle.cl_resp.specs.{ByPhase.{response_by_phase, IsSettledByPhase}, Response.Response};
 
 use crate::words::put_number;
 use cl_cycle::Cycle;

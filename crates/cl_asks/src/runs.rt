@@ -1,6 +1,5 @@
 //! Questions on the run of a trace.
-ghost use Rattle.cl_runs.specs.SystemOf.{system_of};
-ghost use Rattle.cl_runs.specs.Run.{IsInForm};
+ghost use Rattle.cl_runs.specs.{SystemOf.system_of, Run.IsInForm};
 
 use crate::job_chains;
 use crate::plain_models::compared;

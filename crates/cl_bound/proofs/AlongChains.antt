@@ -2,12 +2,9 @@
 use Rattle.std.proofs.Common.{◌≡◌, ℕ, ℤ, pos, suc, ◌+◌, ◌-◌, ◌<◌, ◌≤◌, List, [], ◌∷◌, length, map, refl, subst, arith}
 use Rattle.std.specs.Prelude.{◌+ℤ◌, ◌-ℤ◌, ◌≤ℤ◌, slice_index}
 use Rattle.std.proofs.lemmas.Int.{ints}
-use Rattle.cl_model.specs.declared.group.Group.{Group}
-use Rattle.cl_model.specs.Groups.{group_at}
+use Rattle.cl_model.specs.{declared.group.Group.Group, Groups.group_at}
 use Rattle.cl_runs.specs.Chains.{last_group}
-use Rattle.cl_bound.specs.Hops.{hops}
-use Rattle.cl_bound.specs.declared.group_timing.GroupTiming.{GroupTiming}
-use Rattle.cl_bound.specs.Bounds.{last_of}
+use Rattle.cl_bound.specs.{Hops.hops, declared.group_timing.GroupTiming.GroupTiming, Bounds.last_of}
 
 -- where each hop bounds a moment from the one before it, their sum bounds the last from the first
 pub telescope : (hop : GroupTiming → GroupTiming → ℤ) (timing : Group → GroupTiming) (first : Group) (groups : List Group) (at : ℕ → ℕ)

@@ -4,21 +4,12 @@ use Rattle.std.specs.Prelude.{All}
 use Rattle.std.proofs.lemmas.Int.{ints}
 use Rattle.std.proofs.lemmas.List.{take_all, length-drop}
 use Rattle.std.proofs.Math.ListN.{length-map}
-use Rattle.cl_model.specs.declared.limits.TheConstants.{MOST_TICKS, MOST_STEPS}
-use Rattle.cl_model.specs.declared.model.SystemModel.{SystemModel}
-use Rattle.cl_model.specs.declared.group.Group.{Group}
-use Rattle.cl_model.specs.Groups.{IsGroupOf, no_group}
-use Rattle.cl_model.specs.Validity.{IsValid}
+use Rattle.cl_model.specs.{declared.{limits.TheConstants.{MOST_TICKS, MOST_STEPS}, model.SystemModel.SystemModel, group.Group.Group}, Groups.{IsGroupOf, no_group}, Validity.IsValid}
 use Rattle.cl_runs.specs.SystemOf.{system_of}
 use Rattle.cl_runs.proofs.ModelSystem.{system_sound}
-use Rattle.cl_bound.specs.declared.group_timing.GroupTiming.{GroupTiming}
-use Rattle.cl_bound.specs.declared.sums.Sums.{Sums}
-use Rattle.cl_bound.specs.Answers.{answers_of, NoneIsLate}
-use Rattle.cl_bound.specs.Bounds.{Lengths, greatest_reaction, greatest_age, greatest_reduced, greatest_delay, AreBoundsOf, settled_timing, settled_timings, bounds_of}
-use Rattle.cl_bound.specs.SettledChains.{IsSettledChain, AreWithin}
-use Rattle.cl_bound.specs.Inner.Sums.{IsBound, sums_of, HaveBounds, AreBoundsIn}
-use Rattle.cl_bound.proofs.ModelGroups.{settled_chain, distance_near}
-use Rattle.cl_bound.proofs.SettledChains.{settled_sums, AreLimited, limited, reaction_positive, age_positive, reduced_positive, delay_positive}
+use Rattle.cl_bound.specs.{declared.{group_timing.GroupTiming.GroupTiming, sums.Sums.Sums}, Answers.{answers_of, NoneIsLate}, Bounds.{Lengths, greatest_reaction, greatest_age, greatest_reduced, greatest_delay, AreBoundsOf, settled_timing, settled_timings, bounds_of}}
+use Rattle.cl_bound.specs.{SettledChains.{IsSettledChain, AreWithin}, Inner.Sums.{IsBound, sums_of, HaveBounds, AreBoundsIn}}
+use Rattle.cl_bound.proofs.{ModelGroups.{settled_chain, distance_near}, SettledChains.{settled_sums, AreLimited, limited, reaction_positive, age_positive, reduced_positive, delay_positive}}
 
 -- a list that isn't empty, by its first item and the rest
 first_and_rest : (groups : List Group) → 0 < length groups → groups ≡ get_or groups 0 no_group ∷ drop 1 groups

@@ -2,25 +2,12 @@
 use Rattle.std.proofs.Common.{◌≡◌, ℕ, pos, suc, ◌+◌, ◌-◌, ◌<◌, ◌≤◌, List, [], ◌∷◌, length, map, ap, subst, arith}
 use Rattle.std.specs.Prelude.{slice_index, ◌+ℤ◌, ◌≤ℤ◌, All}
 use Rattle.std.proofs.Math.Numerals.{add-one}
-use Rattle.cl_model.specs.declared.group.Group.{Group}
-use Rattle.cl_runs.specs.TaskTiming.{System, IsSound}
-use Rattle.cl_runs.specs.Table.{job_at}
-use Rattle.cl_runs.specs.Run.{Run, jobs_of}
-use Rattle.cl_runs.specs.Legal.{IsLegal}
-use Rattle.cl_runs.specs.Moments.{Reads, Writes}
-use Rattle.cl_model.specs.Groups.{no_group, group_at}
-use Rattle.cl_runs.specs.Chains.{JobChain, chain_length, first_job, IsEarliestReader, IsForwardChain, AreBackwardLinks, IsAgeChain, IsReducedChain}
-use Rattle.cl_runs.specs.RunChains.{run_moments}
+use Rattle.cl_model.specs.{declared.group.Group.Group, Groups.{no_group, group_at}}
+use Rattle.cl_runs.specs.{TaskTiming.{System, IsSound}, Table.job_at, Run.{Run, jobs_of}, Legal.IsLegal, Moments.{Reads, Writes}, Chains.{JobChain, chain_length, first_job, IsEarliestReader, IsForwardChain, AreBackwardLinks, IsAgeChain, IsReducedChain}, RunChains.run_moments}
 use Rattle.cl_runs.specs.Delays.{IsDelayChain}
 use Rattle.cl_runs.proofs.RunArrivals.{next_within}
-use Rattle.cl_bound.specs.Hops.{forward_hop, backward_hop, hops}
-use Rattle.cl_bound.specs.Timings.{AlwaysKeeps}
-use Rattle.cl_bound.specs.declared.group_timing.GroupTiming.{GroupTiming}
-use Rattle.cl_bound.specs.Bounds.{last_of, Lengths, AreBoundsOf}
-use Rattle.cl_bound.specs.Promises.{AreAtLeast, AreSafe}
-use Rattle.cl_bound.proofs.LaterRuns.{writes_in_time}
-use Rattle.cl_bound.proofs.HopBounds.{forward_arrival, backward_arrival}
-use Rattle.cl_bound.proofs.AlongChains.{telescope, last_timing, at_last, length_within, from_first, from_before, from_arrival, to_next}
+use Rattle.cl_bound.specs.{Hops.{forward_hop, backward_hop, hops}, Timings.AlwaysKeeps, declared.group_timing.GroupTiming.GroupTiming, Bounds.{last_of, Lengths, AreBoundsOf}, Promises.{AreAtLeast, AreSafe}}
+use Rattle.cl_bound.proofs.{LaterRuns.writes_in_time, HopBounds.{forward_arrival, backward_arrival}, AlongChains.{telescope, last_timing, at_last, length_within, from_first, from_before, from_arrival, to_next}}
 
 -- the windows of all groups of a chain are always kept
 abbrev pub AreAlwaysKept : System → (timing : Group → GroupTiming) → List Group → Type 0

@@ -7,21 +7,10 @@ use Rattle.std.proofs.lemmas.List.{drop-take, length-take, length-drop, get_or-d
 use Rattle.std.proofs.lemmas.List.Elements.{All-take}
 use Rattle.std.proofs.Math.ListN.{length-map}
 use Rattle.std.proofs.lemmas.List.{get_or-map}
-use Rattle.cl_model.specs.declared.limits.TheConstants.{MOST_STEPS}
-use Rattle.cl_model.specs.declared.model.SystemModel.{SystemModel}
-use Rattle.cl_model.specs.declared.group.Group.{Group}
-use Rattle.cl_model.specs.Groups.{IsGroupOf, no_group}
-use Rattle.cl_model.specs.Validity.{IsValid}
-use Rattle.cl_runs.specs.TaskTiming.{System}
-use Rattle.cl_runs.specs.SystemOf.{system_of}
-use Rattle.cl_bound.specs.declared.group_timing.GroupTiming.{GroupTiming}
-use Rattle.cl_bound.specs.declared.sums.Sums.{Sums}
-use Rattle.cl_bound.specs.Answers.{answers_of, answer_at, is_late, NoneIsLate}
-use Rattle.cl_bound.specs.Bounds.{Lengths, settled_timing, settled_timings, bounds_of}
-use Rattle.cl_bound.specs.Inner.Sums.{sums_with, sums_of, HaveBounds, AreBoundsIn}
-use Rattle.cl_bound.proofs.LoopSums.{more_sums}
-use Rattle.cl_bound.proofs.BoundSums.{have_bounds, bounds_are}
-use Rattle.cl_bound.proofs.SettledChains.{only_bounds}
+use Rattle.cl_model.specs.{declared.{limits.TheConstants.MOST_STEPS, model.SystemModel.SystemModel, group.Group.Group}, Groups.{IsGroupOf, no_group}, Validity.IsValid}
+use Rattle.cl_runs.specs.{TaskTiming.System, SystemOf.system_of}
+use Rattle.cl_bound.specs.{declared.{group_timing.GroupTiming.GroupTiming, sums.Sums.Sums}, Answers.{answers_of, answer_at, is_late, NoneIsLate}, Bounds.{Lengths, settled_timing, settled_timings, bounds_of}, Inner.Sums.{sums_with, sums_of, HaveBounds, AreBoundsIn}}
+use Rattle.cl_bound.proofs.{LoopSums.more_sums, BoundSums.{have_bounds, bounds_are}, SettledChains.only_bounds}
 
 module _ (model : SystemModel) (valid : IsValid model) (groups : List Group) (few : length groups ≤ MOST_STEPS)
     (of_tasks : All (IsGroupOf model) groups) (timely : NoneIsLate (answers_of (system_of model)) groups) where

@@ -5,21 +5,13 @@ use Rattle.std.specs.Prelude.{sum_by, slice_index_or, All}
 use Rattle.std.proofs.Math.Numerals.{add-one}
 use Rattle.std.proofs.lemmas.List.Elements.{All-head, All-tail}
 use Rattle.std.proofs.lemmas.List.Sums.{sum_by-cons, sum_by-take-drop, sum_by-drop_more}
-use Rattle.cl_model.specs.declared.limits.TheConstants.{MOST_TICKS}
-use Rattle.cl_model.specs.declared.group.Group.{Group}
-use Rattle.cl_model.specs.declared.task.AccessKind.{AccessKind}
-use Rattle.cl_model.specs.declared.task.AccessKind.TheVariants.{Explicit, Implicit, Timed}
-use Rattle.cl_model.specs.Timing.{greatest_distance, greatest_jitter}
+use Rattle.cl_model.specs.{declared.{limits.TheConstants.MOST_TICKS, group.Group.Group, task.AccessKind.{AccessKind, TheVariants.{Explicit, Implicit, Timed}}}, Timing.{greatest_distance, greatest_jitter}}
 use Rattle.cl_runs.specs.TaskTiming.{TimeRange, Timing, System, timing_at, no_range, IsSound}
-use Rattle.cl_runs.proofs.PatternFacts.{distances_ordered}
-use Rattle.cl_runs.proofs.Work.{sum_take_mono}
-use Rattle.cl_comm.specs.declared.spot.Spot.{Spot}
-use Rattle.cl_comm.specs.Windows.{least_times, spot_at, window_of}
+use Rattle.cl_runs.proofs.{PatternFacts.distances_ordered, Work.sum_take_mono}
+use Rattle.cl_comm.specs.{declared.spot.Spot.Spot, Windows.{least_times, spot_at, window_of}}
 use Rattle.cl_comm.proofs.AccessTimes.{windows_end_by_the_deadline}
 use Rattle.cl_resp.specs.Question.{greatest_execution}
-use Rattle.cl_bound.specs.Hops.{group_timing, IsNear}
-use Rattle.cl_bound.specs.declared.group_timing.GroupTiming.{GroupTiming}
-use Rattle.cl_bound.specs.SettledChains.{IsGroupOfTask}
+use Rattle.cl_bound.specs.{Hops.{group_timing, IsNear}, declared.group_timing.GroupTiming.GroupTiming, SettledChains.IsGroupOfTask}
 
 abbrev IsOrdered : TimeRange → Type 0
 IsOrdered range = (1 ≤ range.least) × (range.least ≤ range.greatest)

@@ -1,16 +1,8 @@
 -- Where a runnable starts, a task of higher priority on its core has finished each job that is released.
 use Rattle.std.proofs.Common.{◌≡◌, ℕ, suc, ◌-◌, ◌<◌, ◌≤◌, inl, inr, length, arith}
 use Rattle.std.proofs.lemmas.Bool.{cases_lt}
-use Rattle.cl_runs.specs.TaskTiming.{System, timing_at, IsSound}
-use Rattle.cl_runs.specs.Table.{job_at}
-use Rattle.cl_runs.specs.Run.{Run, jobs_of, executed}
-use Rattle.cl_runs.specs.Legal.{released, IsLegal}
-use Rattle.cl_runs.specs.Moments.{Starts, JobFinishes}
-use Rattle.cl_runs.proofs.Holding.{start_pending}
-use Rattle.cl_runs.proofs.Work.{through_job}
-use Rattle.cl_runs.proofs.LegalFacts.{job_places}
-use Rattle.cl_runs.proofs.RunArrivals.{releases_in_order}
-use Rattle.cl_runs.proofs.StartsFinishes.{finishes_by}
+use Rattle.cl_runs.specs.{TaskTiming.{System, timing_at, IsSound}, Table.job_at, Run.{Run, jobs_of, executed}, Legal.{released, IsLegal}, Moments.{Starts, JobFinishes}}
+use Rattle.cl_runs.proofs.{Holding.start_pending, Work.through_job, LegalFacts.job_places, RunArrivals.releases_in_order, StartsFinishes.finishes_by}
 use Rattle.cl_resp.proofs.BusyWindowWork.{released_is, first_released}
 
 module _ (system : System) (sound : IsSound system) (run : Run) (legal : IsLegal system run) (x y : ℕ)

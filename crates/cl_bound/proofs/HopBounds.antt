@@ -4,20 +4,10 @@ use Rattle.std.specs.Prelude.{◌+ℤ◌, ◌-ℤ◌, ◌≤ℤ◌}
 use Rattle.std.proofs.lemmas.Bool.{cases_lt}
 use Rattle.std.proofs.lemmas.Int.{ints}
 use Rattle.cl_model.specs.declared.group.Group.{Group}
-use Rattle.cl_runs.specs.TaskTiming.{System, IsSound}
-use Rattle.cl_runs.specs.Table.{job_at}
-use Rattle.cl_runs.specs.Run.{Run, jobs_of}
-use Rattle.cl_runs.specs.Legal.{IsLegal}
-use Rattle.cl_runs.specs.Chains.{IsEarliestReader, IsLatestWriter}
-use Rattle.cl_runs.specs.RunChains.{run_moments}
-use Rattle.cl_runs.proofs.RunArrivals.{next_within}
-use Rattle.cl_runs.proofs.MomentFacts.{reads_below}
-use Rattle.cl_runs.proofs.Agreement.{arrival_kept, reads_kept, write_returns}
-use Rattle.cl_bound.specs.Hops.{lag, forward_hop, backward_hop}
-use Rattle.cl_bound.specs.Timings.{AlwaysKeeps}
-use Rattle.cl_bound.specs.declared.group_timing.GroupTiming.{GroupTiming}
-use Rattle.cl_bound.proofs.LaterRuns.{NextWrite, next_write}
-use Rattle.cl_bound.proofs.LagBounds.{arrival_within_lag, forward_lag}
+use Rattle.cl_runs.specs.{TaskTiming.{System, IsSound}, Table.job_at, Run.{Run, jobs_of}, Legal.IsLegal, Chains.{IsEarliestReader, IsLatestWriter}, RunChains.run_moments}
+use Rattle.cl_runs.proofs.{RunArrivals.next_within, MomentFacts.reads_below, Agreement.{arrival_kept, reads_kept, write_returns}}
+use Rattle.cl_bound.specs.{Hops.{lag, forward_hop, backward_hop}, Timings.AlwaysKeeps, declared.group_timing.GroupTiming.GroupTiming}
+use Rattle.cl_bound.proofs.{LaterRuns.{NextWrite, next_write}, LagBounds.{arrival_within_lag, forward_lag}}
 
 -- a job arrives at most a distance after the one before it, so at most a hop after what a lag bounds that by
 one_later : (a b before distance : ℕ) (lag : ℤ) → (pos before +ℤ pos 1) ≤ℤ (pos b +ℤ lag) → a ≤ before + distance

@@ -1,20 +1,11 @@
 -- The timing of a group by a response of its task always holds where the task is timely within it.
 use Rattle.std.proofs.Common.{ℕ, ◌+◌, ◌<◌, ◌≤◌, length, refl, arith}
 use Rattle.cl_model.specs.declared.group.Group.{Group}
-use Rattle.cl_runs.specs.TaskTiming.{System, timing_at, IsSound}
-use Rattle.cl_runs.specs.Table.{job_at}
-use Rattle.cl_runs.specs.Run.{Run, jobs_of}
-use Rattle.cl_runs.specs.Legal.{IsLegal}
-use Rattle.cl_runs.specs.Moments.{Writes}
-use Rattle.cl_runs.specs.Responses.{IsTimely}
-use Rattle.cl_runs.proofs.RunArrivals.{arrives_below}
-use Rattle.cl_runs.proofs.Extension.{extension}
-use Rattle.cl_runs.proofs.Agreement.{job_kept, arrival_kept, write_returns}
+use Rattle.cl_runs.specs.{TaskTiming.{System, timing_at, IsSound}, Table.job_at, Run.{Run, jobs_of}, Legal.IsLegal, Moments.Writes, Responses.IsTimely}
+use Rattle.cl_runs.proofs.{RunArrivals.arrives_below, Extension.extension, Agreement.{job_kept, arrival_kept, write_returns}}
 use Rattle.cl_comm.specs.Windows.{window_at}
 use Rattle.cl_comm.proofs.AccessTimes.{reads_come_late, writes_come_in_time, finished_jobs_write}
-use Rattle.cl_bound.specs.Hops.{group_timing}
-use Rattle.cl_bound.specs.SettledChains.{IsGroupOfTask}
-use Rattle.cl_bound.specs.Timings.{IsTimingOf, AlwaysKeeps}
+use Rattle.cl_bound.specs.{Hops.group_timing, SettledChains.IsGroupOfTask, Timings.{IsTimingOf, AlwaysKeeps}}
 
 -- what the bounds know of a group by responses is of the group
 pub response_timing_is : (system : System) (responses : ℕ → ℕ) (group : Group) → IsTimingOf system group (group_timing system responses group)

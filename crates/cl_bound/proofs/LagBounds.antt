@@ -4,20 +4,10 @@ use Rattle.std.specs.Prelude.{◌+ℤ◌, ◌≤ℤ◌}
 use Rattle.std.proofs.lemmas.Bool.{cases_lt}
 use Rattle.std.proofs.lemmas.Int.{ints}
 use Rattle.cl_model.specs.declared.group.Group.{Group}
-use Rattle.cl_runs.specs.TaskTiming.{System, IsSound}
-use Rattle.cl_runs.specs.Table.{job_at}
-use Rattle.cl_runs.specs.Run.{Run, jobs_of}
-use Rattle.cl_runs.specs.Legal.{IsLegal}
-use Rattle.cl_runs.specs.Moments.{Reads, Writes}
-use Rattle.cl_runs.specs.Chains.{HasWritten, IsEarliestReader, IsLatestWriter}
-use Rattle.cl_runs.specs.RunChains.{run_moments}
-use Rattle.cl_runs.proofs.RunArrivals.{arrivals_rise}
-use Rattle.cl_runs.proofs.MomentFacts.{earlier_has_read}
-use Rattle.cl_bound.specs.Hops.{saves, lag}
-use Rattle.cl_bound.specs.Timings.{AlwaysKeeps}
-use Rattle.cl_bound.specs.declared.group_timing.GroupTiming.{GroupTiming}
-use Rattle.cl_bound.proofs.LagTable.{lag_lines}
-use Rattle.cl_bound.proofs.ReadsBeforeWrites.{arrival_where_saved, arrival_before_write, job_before_write}
+use Rattle.cl_runs.specs.{TaskTiming.{System, IsSound}, Table.job_at, Run.{Run, jobs_of}, Legal.IsLegal, Moments.{Reads, Writes}, Chains.{HasWritten, IsEarliestReader, IsLatestWriter}, RunChains.run_moments}
+use Rattle.cl_runs.proofs.{RunArrivals.arrivals_rise, MomentFacts.earlier_has_read}
+use Rattle.cl_bound.specs.{Hops.{saves, lag}, Timings.AlwaysKeeps, declared.group_timing.GroupTiming.GroupTiming}
+use Rattle.cl_bound.proofs.{LagTable.lag_lines, ReadsBeforeWrites.{arrival_where_saved, arrival_before_write, job_before_write}}
 
 -- a lag bounds an arrival where it does so in each line of its table
 lag_bounds : (a b : ℕ) (writer reader : GroupTiming) → (writer.task ≡ reader.task → a ≤ b)

@@ -4,8 +4,7 @@ use Rattle.std.proofs.Common.{◌≡◌, ℕ, ℤ, pos, true, false, cond, arith
 use Rattle.std.specs.Prelude.{◌+ℤ◌, ◌-ℤ◌, ◌==◌}
 use Rattle.std.proofs.lemmas.Bool.{cond_both, eqb-true}
 use Rattle.std.proofs.lemmas.Int.{ints}
-use Rattle.cl_bound.specs.declared.group_timing.GroupTiming.{GroupTiming}
-use Rattle.cl_bound.specs.Hops.{saves, hop, lag}
+use Rattle.cl_bound.specs.{declared.group_timing.GroupTiming.GroupTiming, Hops.{saves, hop, lag}}
 
 pub lag_lines : (P : ℤ → Type 0) (writer reader : GroupTiming)
     → (writer.task ≡ reader.task → P (pos 1))

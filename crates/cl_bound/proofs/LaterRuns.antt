@@ -1,19 +1,9 @@
 -- What a longer run says of a group whose window is always kept: its writes come in time, and its next job writes.
 use Rattle.std.proofs.Common.{ℕ, suc, ◌+◌, ◌<◌, ◌≤◌, length, arith}
-use Rattle.cl_model.specs.declared.group.Group.{Group}
-use Rattle.cl_model.specs.Timing.{greatest_distance}
-use Rattle.cl_runs.specs.TaskTiming.{System, timing_at, IsSound}
-use Rattle.cl_runs.specs.Table.{job_at}
-use Rattle.cl_runs.specs.Run.{Run, jobs_of}
-use Rattle.cl_runs.specs.Legal.{IsLegal}
-use Rattle.cl_runs.specs.Moments.{Writes}
-use Rattle.cl_runs.specs.GoesOn.{GoesOn}
-use Rattle.cl_runs.proofs.MomentFacts.{writes_once}
-use Rattle.cl_runs.proofs.RunArrivals.{arrives_below, next_within, next_due}
-use Rattle.cl_runs.proofs.Extension.{extension}
-use Rattle.cl_runs.proofs.Agreement.{job_kept, arrival_kept, writes_kept}
-use Rattle.cl_bound.specs.declared.group_timing.GroupTiming.{GroupTiming}
-use Rattle.cl_bound.specs.Timings.{AlwaysKeeps}
+use Rattle.cl_model.specs.{declared.group.Group.Group, Timing.greatest_distance}
+use Rattle.cl_runs.specs.{TaskTiming.{System, timing_at, IsSound}, Table.job_at, Run.{Run, jobs_of}, Legal.IsLegal, Moments.Writes, GoesOn.GoesOn}
+use Rattle.cl_runs.proofs.{MomentFacts.writes_once, RunArrivals.{arrives_below, next_within, next_due}, Extension.extension, Agreement.{job_kept, arrival_kept, writes_kept}}
+use Rattle.cl_bound.specs.{declared.group_timing.GroupTiming.GroupTiming, Timings.AlwaysKeeps}
 
 -- a legal run that goes on from a run, in which the job after job k has written
 pub record NextWrite (system : System) (run : Run) (i k p : ℕ) : Type 0 where

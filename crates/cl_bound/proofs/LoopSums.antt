@@ -4,11 +4,7 @@ use Rattle.std.specs.Prelude.{◌+ℤ◌}
 use Rattle.std.proofs.lemmas.Int.{ints}
 use Rattle.std.proofs.lemmas.List.{take_more}
 use Rattle.cl_stim.specs.Integers.{IsIntegerWithin}
-use Rattle.cl_bound.specs.declared.group_timing.GroupTiming.{GroupTiming}
-use Rattle.cl_bound.specs.declared.sums.Sums.{Sums}
-use Rattle.cl_bound.specs.Hops.{forward_hop, backward_hop, hops}
-use Rattle.cl_bound.specs.Bounds.{last_of}
-use Rattle.cl_bound.specs.Inner.Sums.{sums_with, sums_of}
+use Rattle.cl_bound.specs.{declared.{group_timing.GroupTiming.GroupTiming, sums.Sums.Sums}, Hops.{forward_hop, backward_hop, hops}, Bounds.last_of, Inner.Sums.{sums_with, sums_of}}
 
 -- a sum with one more group
 hops_more : (hop : GroupTiming → GroupTiming → ℤ) (first : GroupTiming) (groups : List GroupTiming) (next : GroupTiming)

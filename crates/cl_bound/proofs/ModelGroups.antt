@@ -4,32 +4,16 @@ use Rattle.std.specs.Prelude.{All}
 use Rattle.std.proofs.lemmas.List.{get_or_default}
 use Rattle.std.proofs.lemmas.List.Elements.{All-weaker}
 use Rattle.std.proofs.Math.ListN.{length-map}
-use Rattle.cl_model.specs.declared.limits.TheConstants.{MOST_TICKS}
-use Rattle.cl_model.specs.declared.model.SystemModel.{SystemModel}
-use Rattle.cl_model.specs.declared.group.Group.{Group}
-use Rattle.cl_model.specs.declared.task.TaskDef.{TaskDef}
-use Rattle.cl_model.specs.Groups.{IsGroupOf}
-use Rattle.cl_model.specs.ByNumber.{task_at, core_of, jitter_of, stimulus_of}
-use Rattle.cl_model.specs.Timing.{greatest_distance, greatest_jitter}
-use Rattle.cl_model.specs.Kinds.{is_timed}
+use Rattle.cl_model.specs.{declared.{limits.TheConstants.MOST_TICKS, model.SystemModel.SystemModel, group.Group.Group, task.TaskDef.TaskDef}, Groups.IsGroupOf, ByNumber.{task_at, core_of, jitter_of, stimulus_of}, Timing.{greatest_distance, greatest_jitter}, Kinds.is_timed}
 use Rattle.cl_model.specs.Validity.{IsValid}
-use Rattle.cl_runs.specs.TaskTiming.{Timing, System, timing_at}
-use Rattle.cl_runs.specs.SystemOf.{system_of}
+use Rattle.cl_runs.specs.{TaskTiming.{Timing, System, timing_at}, SystemOf.system_of}
 use Rattle.cl_runs.proofs.ModelSystem.{timing_is, count_is, range_count_is, system_sound}
 use Rattle.cl_stim.proofs.ValidStimuli.{has_stimulus}
-use Rattle.cl_comm.specs.Windows.{window_at}
-use Rattle.cl_resp.specs.Question.{greatest_execution}
-use Rattle.cl_resp.specs.Response.{IsSettled}
+use Rattle.cl_comm.specs.{Windows.window_at, declared.spot.Window.Window}
+use Rattle.cl_resp.specs.{Question.greatest_execution, Response.IsSettled}
 use Rattle.cl_resp.proofs.StimulusKinds.{greatest_few}
-use Rattle.cl_bound.specs.declared.answer.TaskAnswer.{TaskAnswer}
-use Rattle.cl_bound.specs.declared.answer.TaskAnswer.TheVariants.{Late}
-use Rattle.cl_bound.specs.Answers.{answers_of, answer_to, answer_at, is_late, response_in, NoneIsLate}
-use Rattle.cl_bound.proofs.SettledTasks.{settled_task}
-use Rattle.cl_bound.specs.declared.group_timing.GroupTiming.{GroupTiming}
-use Rattle.cl_bound.specs.Hops.{timing_in, group_timing, IsNear}
-use Rattle.cl_comm.specs.declared.spot.Window.{Window}
-use Rattle.cl_bound.specs.SettledChains.{IsGroupOfTask, IsSettledChain}
-use Rattle.cl_bound.proofs.GroupWindows.{jitter_within, group_proper, proper_near}
+use Rattle.cl_bound.specs.{declared.{answer.TaskAnswer.{TaskAnswer, TheVariants.Late}, group_timing.GroupTiming.GroupTiming}, Answers.{answers_of, answer_to, answer_at, is_late, response_in, NoneIsLate}, Hops.{timing_in, group_timing, IsNear}, SettledChains.{IsGroupOfTask, IsSettledChain}}
+use Rattle.cl_bound.proofs.{SettledTasks.settled_task, GroupWindows.{jitter_within, group_proper, proper_near}}
 
 -- a group of a model is one of its system
 pub group_of_system : (model : SystemModel) (group : Group) → IsGroupOf model group → IsGroupOfTask (system_of model) group

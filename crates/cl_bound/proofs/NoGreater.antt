@@ -7,10 +7,7 @@ use Rattle.cl_model.specs.declared.group.Group.{Group}
 use Rattle.cl_runs.specs.TaskTiming.{System, timing_at}
 use Rattle.cl_comm.specs.Windows.{spot_at}
 use Rattle.cl_comm.proofs.Responses.{reads_stay, ends_rise}
-use Rattle.cl_bound.specs.declared.group_timing.GroupTiming.{GroupTiming}
-use Rattle.cl_bound.specs.Bounds.{last_of, greatest_reaction, greatest_reduced, greatest_age, greatest_delay, Lengths, AreBoundsOf}
-use Rattle.cl_bound.specs.Hops.{group_timing, saves, lag, hop, forward_hop, backward_hop, hops}
-use Rattle.cl_bound.specs.NoGreater.{StaysWithin, AreNoGreater}
+use Rattle.cl_bound.specs.{declared.group_timing.GroupTiming.GroupTiming, Bounds.{last_of, greatest_reaction, greatest_reduced, greatest_age, greatest_delay, Lengths, AreBoundsOf}, Hops.{group_timing, saves, lag, hop, forward_hop, backward_hop, hops}, NoGreater.{StaysWithin, AreNoGreater}}
 
 -- a group of a task whose response is no greater reads and writes within the window of the greater one
 pub stays_within : (system : System) (responses others : ℕ → ℕ) (group : Group) → responses group.task ≤ others group.task

@@ -4,9 +4,7 @@ use Rattle.std.specs.Prelude.{◌+ℤ◌, nat_abs}
 use Rattle.std.proofs.lemmas.Int.{ints}
 use Rattle.cl_model.specs.declared.group.Group.{Group}
 use Rattle.cl_runs.specs.TaskTiming.{System}
-use Rattle.cl_bound.specs.declared.group_timing.GroupTiming.{GroupTiming}
-use Rattle.cl_bound.specs.Hops.{forward_hop, backward_hop, hops}
-use Rattle.cl_bound.specs.Bounds.{last_of, greatest_reaction, greatest_age, settled_timings, bounds_of}
+use Rattle.cl_bound.specs.{declared.group_timing.GroupTiming.GroupTiming, Hops.{forward_hop, backward_hop, hops}, Bounds.{last_of, greatest_reaction, greatest_age, settled_timings, bounds_of}}
 use Rattle.cl_bound.proofs.LagTable.{hop_shifts}
 
 -- forward hops take the distances of all groups but the first, backward hops those of all but the last

@@ -3,23 +3,12 @@
 use Rattle.std.proofs.Common.{◌≡◌, ◌≢◌, ℕ, ◌+◌, ◌<◌, ◌≤◌, true, inl, inr, not, nat_lt, length, sym, ap, ◌∙◌, subst, arith}
 use Rattle.std.specs.Prelude.{◌==◌, ◌&&◌}
 use Rattle.std.proofs.lemmas.Bool.{cases_lt, and_parts, ltb-true, eqb-true, true≢false}
-use Rattle.cl_model.specs.declared.group.Group.{Group}
-use Rattle.cl_model.specs.declared.task.AccessKind.{AccessKind}
-use Rattle.cl_model.specs.declared.task.AccessKind.TheVariants.{Timed}
-use Rattle.cl_model.specs.Kinds.{is_timed}
-use Rattle.cl_runs.specs.TaskTiming.{Timing, System, timing_at, IsSound}
-use Rattle.cl_runs.specs.Table.{job_at}
-use Rattle.cl_runs.specs.Run.{Run, jobs_of}
-use Rattle.cl_runs.specs.Legal.{IsLegal}
-use Rattle.cl_runs.specs.Moments.{Reads, Writes}
-use Rattle.cl_runs.proofs.MomentFacts.{writes_once}
-use Rattle.cl_runs.proofs.RunArrivals.{released_within}
+use Rattle.cl_model.specs.{declared.{group.Group.Group, task.AccessKind.{AccessKind, TheVariants.Timed}}, Kinds.is_timed}
+use Rattle.cl_runs.specs.{TaskTiming.{Timing, System, timing_at, IsSound}, Table.job_at, Run.{Run, jobs_of}, Legal.IsLegal, Moments.{Reads, Writes}}
+use Rattle.cl_runs.proofs.{MomentFacts.writes_once, RunArrivals.released_within}
 use Rattle.cl_comm.proofs.AccessTimes.{readers_run, readers_write_by_their_finish, writes_come_before_the_next_read}
-use Rattle.cl_bound.specs.Hops.{saves}
-use Rattle.cl_bound.specs.Timings.{IsTimingOf, AlwaysKeeps}
-use Rattle.cl_bound.specs.declared.group_timing.GroupTiming.{GroupTiming}
-use Rattle.cl_bound.proofs.HigherFinished.{finished_before}
-use Rattle.cl_bound.proofs.LaterRuns.{writes_in_time}
+use Rattle.cl_bound.specs.{Hops.saves, Timings.{IsTimingOf, AlwaysKeeps}, declared.group_timing.GroupTiming.GroupTiming}
+use Rattle.cl_bound.proofs.{HigherFinished.finished_before, LaterRuns.writes_in_time}
 
 not_timed : (access : AccessKind) → not (is_timed access) ≡ true → access ≢ Timed
 not_timed access other timed = true≢false (sym other ∙ ap (λ a. not (is_timed a)) timed)

@@ -3,29 +3,13 @@ use Rattle.std.proofs.Common.{◌≡◌, ℕ, pos, ◌*◌, ◌<◌, ◌≤◌, 
 use Rattle.std.specs.Prelude.{◌+ℤ◌, ◌≤ℤ◌, nat_abs, All}
 use Rattle.std.proofs.Math.ListN.{length-map}
 use Rattle.std.proofs.lemmas.List.Elements.{All-map}
-use Rattle.cl_model.specs.declared.group.Group.{Group}
-use Rattle.cl_model.specs.Groups.{no_group, group_at}
-use Rattle.cl_runs.specs.TaskTiming.{System, IsSound}
-use Rattle.cl_runs.specs.Table.{job_at}
-use Rattle.cl_runs.specs.Run.{Run, jobs_of}
-use Rattle.cl_runs.specs.Legal.{IsLegal}
-use Rattle.cl_runs.specs.Chains.{IsEarliestReader, IsLatestWriter}
-use Rattle.cl_runs.specs.RunChains.{run_moments}
+use Rattle.cl_model.specs.{declared.group.Group.Group, Groups.{no_group, group_at}}
+use Rattle.cl_runs.specs.{TaskTiming.{System, IsSound}, Table.job_at, Run.{Run, jobs_of}, Legal.IsLegal, Chains.{IsEarliestReader, IsLatestWriter}, RunChains.run_moments}
 use Rattle.cl_resp.specs.Response.{IsSettled}
-use Rattle.cl_resp.proofs.BusyWindowTask.{settled_timely}
-use Rattle.cl_resp.proofs.SettledTasks.{execution_in_response}
-use Rattle.cl_bound.specs.Answers.{answers_of, answer_at, response_in}
-use Rattle.cl_bound.specs.Hops.{forward_hop, backward_hop}
-use Rattle.cl_bound.specs.declared.group_timing.GroupTiming.{GroupTiming}
-use Rattle.cl_bound.specs.Bounds.{Lengths, AreBoundsOf, settled_timing, settled_timings, bounds_of}
-use Rattle.cl_bound.specs.Promises.{AreSafe}
-use Rattle.cl_bound.specs.SettledChains.{IsSettledChain, AreWithin}
-use Rattle.cl_bound.proofs.SettledTasks.{settled_task, in_deadline}
-use Rattle.cl_bound.proofs.GroupWindows.{IsProper, group_proper}
-use Rattle.cl_bound.proofs.HopBounds.{forward_arrival, backward_arrival}
-use Rattle.cl_bound.proofs.ChainBounds.{AreAlwaysKept, at_least}
-use Rattle.cl_bound.proofs.KeptWindows.{timely_keeps}
-use Rattle.cl_bound.proofs.SumsOfHops.{IsAtMost, reaction_absolute, age_absolute, reduced_absolute, delay_absolute, reaction_some, age_some, reduced_some, delay_some, reaction_at_most, age_at_most, reduced_at_most, delay_at_most}
+use Rattle.cl_resp.proofs.{BusyWindowTask.settled_timely, SettledTasks.execution_in_response}
+use Rattle.cl_bound.specs.{Answers.{answers_of, answer_at, response_in}, Hops.{forward_hop, backward_hop}, declared.group_timing.GroupTiming.GroupTiming, Bounds.{Lengths, AreBoundsOf, settled_timing, settled_timings, bounds_of}, Promises.AreSafe, SettledChains.{IsSettledChain, AreWithin}}
+use Rattle.cl_bound.proofs.{SettledTasks.{settled_task, in_deadline}, GroupWindows.{IsProper, group_proper}, HopBounds.{forward_arrival, backward_arrival}, ChainBounds.{AreAlwaysKept, at_least}, KeptWindows.timely_keeps, SumsOfHops.{IsAtMost, reaction_absolute, age_absolute}}
+use Rattle.cl_bound.proofs.SumsOfHops.{reduced_absolute, delay_absolute, reaction_some, age_some, reduced_some, delay_some, reaction_at_most, age_at_most, reduced_at_most, delay_at_most}
 
 -- the response in the answer for a task of a system
 abbrev response_at : System → ℕ → ℕ

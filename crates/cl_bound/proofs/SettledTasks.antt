@@ -3,12 +3,9 @@ use Rattle.std.proofs.Common.{◌≡◌, ℕ, ◌<◌, ◌≤◌, false, Option,
 use Rattle.std.proofs.lemmas.Bool.{true≢false}
 use Rattle.std.proofs.lemmas.List.{get_or-map}
 use Rattle.cl_runs.specs.TaskTiming.{System, timing_at, no_timing}
-use Rattle.cl_resp.specs.Question.{question_of}
-use Rattle.cl_resp.specs.Response.{Response, response_to, IsSettled}
+use Rattle.cl_resp.specs.{Question.question_of, Response.{Response, response_to, IsSettled}}
 use Rattle.cl_resp.proofs.SettledTasks.{settled_answer, answered_window, answered_response}
-use Rattle.cl_bound.specs.declared.answer.TaskAnswer.{TaskAnswer}
-use Rattle.cl_bound.specs.declared.answer.TaskAnswer.TheVariants.{Late}
-use Rattle.cl_bound.specs.Answers.{answer_with, answer_to, answers_of, is_late, response_in, answer_at}
+use Rattle.cl_bound.specs.{declared.answer.TaskAnswer.{TaskAnswer, TheVariants.Late}, Answers.{answer_with, answer_to, answers_of, is_late, response_in, answer_at}}
 
 -- the response in an answer that isn't late is the one that it was made with
 answered : (response : Option Response) (answer : TaskAnswer) → answer ≡ answer_with response → is_late answer ≡ false

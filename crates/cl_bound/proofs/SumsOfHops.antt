@@ -4,11 +4,8 @@ use Rattle.std.proofs.Common.{◌≡◌, ℕ, ℤ, pos, negsuc, suc, ◌+◌, �
 use Rattle.std.specs.Prelude.{◌+ℤ◌, ◌-ℤ◌, ◌≤ℤ◌, nat_abs, All}
 use Rattle.std.proofs.lemmas.Int.{ints}
 use Rattle.std.proofs.lemmas.List.Elements.{All-head, All-tail, All-weaker}
-use Rattle.cl_bound.specs.Hops.{hop, forward_hop, backward_hop, hops}
-use Rattle.cl_bound.specs.declared.group_timing.GroupTiming.{GroupTiming}
-use Rattle.cl_bound.specs.Bounds.{last_of, greatest_reaction, greatest_age, greatest_reduced, greatest_delay}
-use Rattle.cl_bound.proofs.GroupWindows.{IsProper}
-use Rattle.cl_bound.proofs.LagTable.{lag_lines}
+use Rattle.cl_bound.specs.{Hops.{hop, forward_hop, backward_hop, hops}, declared.group_timing.GroupTiming.GroupTiming, Bounds.{last_of, greatest_reaction, greatest_age, greatest_reduced, greatest_delay}}
+use Rattle.cl_bound.proofs.{GroupWindows.IsProper, LagTable.lag_lines}
 
 -- what holds of all groups of a chain holds of the last
 last_holds : (P : GroupTiming → Type 0) (first : GroupTiming) (groups : List GroupTiming) → P first → All P groups → P (last_of first groups)

@@ -2,10 +2,8 @@
 use Rattle.std.specs.Prelude.{◌≡◌, ℕ, Bool, true, false, List, map, slice_index_or, All, Option, Some, None}
 use Rattle.cl_model.specs.declared.group.Group.{Group}
 use Rattle.cl_runs.specs.TaskTiming.{Timing, System}
-use Rattle.cl_resp.specs.Question.{question_of}
-use Rattle.cl_resp.specs.Response.{Response, response_to}
-use Rattle.cl_bound.specs.declared.answer.TaskAnswer.{TaskAnswer}
-use Rattle.cl_bound.specs.declared.answer.TaskAnswer.TheVariants.{Settled, Late}
+use Rattle.cl_resp.specs.{Question.question_of, Response.{Response, response_to}}
+use Rattle.cl_bound.specs.declared.answer.TaskAnswer.{TaskAnswer, TheVariants.{Settled, Late}}
 
 -- the answer for a task that has this response, or none
 abbrev pub answer_with : Option Response → TaskAnswer

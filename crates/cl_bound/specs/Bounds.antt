@@ -2,9 +2,7 @@
 use Rattle.std.specs.Prelude.{◌≡◌, ℕ, ℤ, pos, ◌+ℤ◌, ◌-ℤ◌, nat_abs, List, [], ◌∷◌, map}
 use Rattle.cl_model.specs.declared.group.Group.{Group}
 use Rattle.cl_runs.specs.TaskTiming.{System}
-use Rattle.cl_bound.specs.Answers.{answer_at, response_in, answers_of}
-use Rattle.cl_bound.specs.Hops.{group_timing, forward_hop, backward_hop, hops}
-use Rattle.cl_bound.specs.declared.group_timing.GroupTiming.{GroupTiming}
+use Rattle.cl_bound.specs.{Answers.{answer_at, response_in, answers_of}, Hops.{group_timing, forward_hop, backward_hop, hops}, declared.group_timing.GroupTiming.GroupTiming}
 
 -- the last group of a chain
 abbrev pub last_of : GroupTiming → List GroupTiming → GroupTiming

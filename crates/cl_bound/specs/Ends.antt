@@ -1,7 +1,6 @@
 -- What the bounds of a chain depend on.
 use Rattle.std.specs.Prelude.{ℕ, ℤ, List, [], ◌∷◌}
-use Rattle.cl_bound.specs.declared.group_timing.GroupTiming.{GroupTiming}
-use Rattle.cl_bound.specs.Hops.{lag}
+use Rattle.cl_bound.specs.{declared.group_timing.GroupTiming.GroupTiming, Hops.lag}
 
 -- how far the jobs of a group are apart at most, when it reads at the earliest, and when it writes at the latest
 pub record Ends : Type 0 where

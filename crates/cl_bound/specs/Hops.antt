@@ -1,9 +1,6 @@
 -- Hops: how much later the job of a group arrives than that of the group before it.
 use Rattle.std.specs.Prelude.{ℕ, ◌≤◌, ℤ, pos, ◌+ℤ◌, ◌-ℤ◌, Bool, ◌==◌, ◌&&◌, not, nat_lt, if◌then◌else◌, List, [], ◌∷◌}
-use Rattle.cl_model.specs.declared.limits.TheConstants.{MOST_TICKS}
-use Rattle.cl_model.specs.declared.group.Group.{Group}
-use Rattle.cl_model.specs.Timing.{greatest_distance, greatest_jitter}
-use Rattle.cl_model.specs.Kinds.{is_timed}
+use Rattle.cl_model.specs.{declared.{limits.TheConstants.MOST_TICKS, group.Group.Group}, Timing.{greatest_distance, greatest_jitter}, Kinds.is_timed}
 use Rattle.cl_runs.specs.TaskTiming.{System, timing_at}
 use Rattle.cl_comm.specs.Windows.{window_at}
 use Rattle.cl_bound.specs.declared.group_timing.GroupTiming.{GroupTiming}

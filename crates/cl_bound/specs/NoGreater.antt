@@ -1,7 +1,6 @@
 -- Groups that read no earlier and write no later, and bounds that are no greater.
 use Rattle.std.specs.Prelude.{◌≡◌, ◌≤◌}
-use Rattle.cl_bound.specs.Bounds.{Lengths}
-use Rattle.cl_bound.specs.declared.group_timing.GroupTiming.{GroupTiming}
+use Rattle.cl_bound.specs.{Bounds.Lengths, declared.group_timing.GroupTiming.GroupTiming}
 
 -- a group is as another one, reads no earlier and writes no later
 pub record StaysWithin (group other : GroupTiming) : Type 0 where

@@ -1,12 +1,7 @@
 -- What bounds promise of legal runs.
 use Rattle.std.specs.Prelude.{◌≤◌, List}
 use Rattle.cl_model.specs.declared.group.Group.{Group}
-use Rattle.cl_runs.specs.TaskTiming.{System}
-use Rattle.cl_runs.specs.Run.{Run}
-use Rattle.cl_runs.specs.Legal.{IsLegal}
-use Rattle.cl_runs.specs.Chains.{JobChain, chain_length, IsForwardChain, IsAgeChain, IsReducedChain}
-use Rattle.cl_runs.specs.RunChains.{run_moments}
-use Rattle.cl_runs.specs.Delays.{IsDelayChain}
+use Rattle.cl_runs.specs.{TaskTiming.System, Run.Run, Legal.IsLegal, Chains.{JobChain, chain_length, IsForwardChain, IsAgeChain, IsReducedChain}, RunChains.run_moments, Delays.IsDelayChain}
 use Rattle.cl_bound.specs.Bounds.{Lengths}
 
 -- the bounds are at least the lengths of all complete chains of a run, and its delays

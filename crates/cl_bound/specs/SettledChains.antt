@@ -2,8 +2,7 @@
 use Rattle.std.specs.Prelude.{ℕ, ◌<◌, ◌≤◌, List, length, All}
 use Rattle.cl_model.specs.declared.group.Group.{Group}
 use Rattle.cl_runs.specs.TaskTiming.{System, timing_at}
-use Rattle.cl_bound.specs.Answers.{answers_of, NoneIsLate}
-use Rattle.cl_bound.specs.Bounds.{settled_timing}
+use Rattle.cl_bound.specs.{Answers.{answers_of, NoneIsLate}, Bounds.settled_timing}
 
 -- a group of a system: runnables of one of its tasks, of which the first doesn't stand behind the last
 pub record IsGroupOfTask (system : System) (group : Group) : Type 0 where

@@ -1,15 +1,8 @@
 -- Timings of groups that hold in every legal run: each job reads and writes in the window that its timing says.
 use Rattle.std.specs.Prelude.{◌≡◌, ℕ, ◌+◌, ◌<◌, ◌≤◌, length}
-use Rattle.cl_model.specs.declared.group.Group.{Group}
-use Rattle.cl_model.specs.Timing.{greatest_distance, greatest_jitter}
-use Rattle.cl_model.specs.Kinds.{is_timed}
-use Rattle.cl_runs.specs.TaskTiming.{System, timing_at}
-use Rattle.cl_runs.specs.Table.{job_at}
-use Rattle.cl_runs.specs.Run.{Run, jobs_of}
-use Rattle.cl_runs.specs.Legal.{IsLegal}
-use Rattle.cl_runs.specs.Moments.{Reads, Writes}
-use Rattle.cl_bound.specs.declared.group_timing.GroupTiming.{GroupTiming}
-use Rattle.cl_bound.specs.SettledChains.{IsGroupOfTask}
+use Rattle.cl_model.specs.{declared.group.Group.Group, Timing.{greatest_distance, greatest_jitter}, Kinds.is_timed}
+use Rattle.cl_runs.specs.{TaskTiming.{System, timing_at}, Table.job_at, Run.{Run, jobs_of}, Legal.IsLegal, Moments.{Reads, Writes}}
+use Rattle.cl_bound.specs.{declared.group_timing.GroupTiming.GroupTiming, SettledChains.IsGroupOfTask}
 
 -- a timing is that of a group but for its window, whatever that is: where its task runs and how it accesses labels, and
 -- how its jobs arrive

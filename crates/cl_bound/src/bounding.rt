@@ -1,14 +1,9 @@
 //! The bounds of a chain, and of a part of one. Times are in ticks.
 ghost use Rattle.std.specs.Prelude.{◌≡◌, ℕ, ◌+◌, ◌^◌, ◌<◌, ◌≤◌, false, length, take, slice_index, All};
-ghost use Rattle.cl_model.specs.declared.limits.TheConstants.{MOST_STEPS};
-ghost use Rattle.cl_model.specs.Groups.{groups_at, IsGroupOf};
-ghost use Rattle.cl_model.specs.Validity.{IsValid};
+ghost use Rattle.cl_model.specs.{declared.limits.TheConstants.MOST_STEPS, Groups.{groups_at, IsGroupOf}, Validity.IsValid};
 ghost use Rattle.cl_runs.specs.SystemOf.{system_of};
 ghost use Rattle.cl_stim.specs.Integers.{IsIntegerWithin};
-ghost use Rattle.cl_bound.specs.Answers.{answers_of, answer_at, is_late, NoneIsLate};
-ghost use Rattle.cl_bound.specs.Bounds.{AreBoundsOf, settled_timing, settled_timings, bounds_of};
-ghost use Rattle.cl_bound.specs.Promises.{AreSafe};
-ghost use Rattle.cl_bound.specs.Inner.Sums.{sums_of};
+ghost use Rattle.cl_bound.specs.{Answers.{answers_of, answer_at, is_late, NoneIsLate}, Bounds.{AreBoundsOf, settled_timing, settled_timings, bounds_of}, Promises.AreSafe, Inner.Sums.sums_of};
 
 use crate::answer::TaskAnswer;
 use crate::bounds::Bounds;

@@ -1,12 +1,7 @@
 //! What the bounds know of a group, and lags and hops between groups. Times are in ticks.
 ghost use Rattle.std.specs.Prelude.{◌≡◌, ℕ, ◌^◌, ◌<◌, ◌≤◌, length};
-ghost use Rattle.cl_model.specs.declared.limits.TheConstants.{MOST_TICKS};
-ghost use Rattle.cl_model.specs.Groups.{IsGroupOf};
-ghost use Rattle.cl_model.specs.ByNumber.{task_at};
-ghost use Rattle.cl_model.specs.Validity.{IsValid};
-ghost use Rattle.cl_model.specs.Kinds.{is_timed};
-ghost use Rattle.cl_runs.specs.SystemOf.{system_of};
-ghost use Rattle.cl_runs.specs.TaskTiming.{timing_at};
+ghost use Rattle.cl_model.specs.{declared.limits.TheConstants.MOST_TICKS, Groups.IsGroupOf, ByNumber.task_at, Validity.IsValid, Kinds.is_timed};
+ghost use Rattle.cl_runs.specs.{SystemOf.system_of, TaskTiming.timing_at};
 ghost use Rattle.cl_stim.specs.Integers.{IsIntegerWithin};
 ghost use Rattle.cl_comm.specs.Windows.{window_at};
 ghost use Rattle.cl_resp.specs.Question.{greatest_execution};

@@ -1,64 +1,14 @@
 -- Jobs that are linked backward, over the moments of groups.
-use Rattle.std.proofs.Common.{◌≡◌, ℕ, zero, suc, ◌+◌, ◌-◌, ◌<◌, ◌≤◌, inl, inr, Option, Some, None, List, [], ◌∷◌, ◌++◌, length, length-append, length-set, set, refl, sym, ap, ◌∙◌, subst, arith}
+use Rattle.std.proofs.Common.{◌≡◌, ℕ, zero, suc, ◌+◌, ◌-◌, ◌<◌, ◌≤◌, inl, inr, Option, Some, None, List, [], ◌∷◌, ◌++◌, length, length-append, refl, sym, ap, ◌∙◌, subst, arith}
 use Rattle.std.specs.Prelude.{slice_index}
 use Rattle.std.proofs.lemmas.Bool.{cases_lt}
-use Rattle.std.proofs.lemmas.List.{get_or-set_other, get_or-set_same}
 use Rattle.cl_runs.specs.Chains.{JobChain, last_job}
-use Rattle.cl_chain.specs.declared.group_moments.GroupMoments.{GroupMoments}
-use Rattle.cl_chain.specs.Inner.GroupTables.{moment_at, reads_in, writes_in}
-use Rattle.cl_chain.specs.Inner.Hops.{IsBackwardHop, IsNextWrite}
-use Rattle.cl_chain.specs.Inner.ChainsOver.{AreBackwardJobs, AreBackwardFrom, IsHead, IsBackwardTo, IsTheChain, IsAgeOver, IsReducedOver}
+use Rattle.cl_chain.specs.{declared.group_moments.GroupMoments.GroupMoments, Inner.{GroupTables.{moment_at, reads_in, writes_in}, Hops.{IsBackwardHop, IsNextWrite}, ChainsOver.{AreBackwardJobs, AreBackwardFrom, IsHead, IsBackwardTo, IsTheChain, IsAgeOver, IsReducedOver}}}
 use Rattle.cl_chain.specs.JobChains.{IsChainOf}
-use Rattle.cl_chain.proofs.MomentLists.{same_some}
-use Rattle.cl_chain.proofs.HopFacts.{backward_hop_once}
-use Rattle.cl_chain.proofs.ForwardFacts.{job_before, job_pushed}
+use Rattle.cl_chain.proofs.{MomentLists.same_some, HopFacts.backward_hop_once, ForwardFacts.{job_before, job_pushed}}
 
 module _ (tables : List GroupMoments) where
   -- ---- the walk back
-
-  pub last_placed : (jobs : List ℕ) (place last : ℕ) → length jobs ≡ length tables → suc place ≡ length tables → AreBackwardFrom tables place (set jobs place last)
-  last_placed jobs place last count is = record {
-    one_a_group = length-set jobs place last ∙ count;
-    linked = λ i after h. absurd (omega (arith, after, h, is));
-  }
-
-  pub placed_job : (jobs : List ℕ) (place job : ℕ) → length jobs ≡ length tables → place < length tables → slice_index (set jobs place job) place ≡ job
-  placed_job jobs place job count h = get_or-set_same jobs place job 0 (omega (arith, count, h))
-
-  module _ (jobs : List ℕ) (place before job writer : ℕ) (next : suc before ≡ place) (within : place < length tables)
-      (so_far : AreBackwardFrom tables place jobs) (is_job : slice_index jobs place ≡ job)
-      (hop : IsBackwardHop (writes_in tables before) (reads_in tables place) writer job) where
-    kept : (i : ℕ) → place ≤ i → slice_index (set jobs before writer) i ≡ slice_index jobs i
-    kept i h = get_or-set_other jobs before i writer 0 (λ same. omega (arith, same, h, next))
-
-    pub writer_placed : AreBackwardFrom tables before (set jobs before writer)
-    writer_placed = record { one_a_group = length-set jobs before writer ∙ so_far.one_a_group; linked = link }
-      where
-        new_link : (i : ℕ) → before ≡ i → IsBackwardHop (writes_in tables i) (reads_in tables (suc i)) (slice_index (set jobs before writer) i) (slice_index (set jobs before writer) (suc i))
-        new_link i here =
-            subst (λ m. IsBackwardHop (writes_in tables i) (reads_in tables (suc i)) m (slice_index (set jobs before writer) (suc i)))
-            (sym (placed_job jobs before writer so_far.one_a_group (omega (arith, next, within))) ∙ ap (slice_index (set jobs before writer)) here)
-            (subst (λ k. IsBackwardHop (writes_in tables i) (reads_in tables (suc i)) writer k)
-            (sym is_job ∙ sym (kept place (omega arith)) ∙ ap (slice_index (set jobs before writer)) (sym next ∙ ap suc here))
-            (subst (λ n. IsBackwardHop (writes_in tables i) (reads_in tables n) writer job) (sym next ∙ ap suc here)
-            (subst (λ n. IsBackwardHop (writes_in tables n) (reads_in tables place) writer job) here hop)))
-
-        link : (i : ℕ) → before ≤ i → suc i < length tables
-            → IsBackwardHop (writes_in tables i) (reads_in tables (suc i)) (slice_index (set jobs before writer) i) (slice_index (set jobs before writer) (suc i))
-        link i h below = elim (cases_lt before i) [
-          | inl after ↦
-              subst (λ m. IsBackwardHop (writes_in tables i) (reads_in tables (suc i)) m (slice_index (set jobs before writer) (suc i)))
-              (sym (kept i (omega (arith, after, next))))
-              (subst (λ k. IsBackwardHop (writes_in tables i) (reads_in tables (suc i)) (slice_index jobs i) k)
-              (sym (kept (suc i) (omega (arith, after, next)))) (so_far.linked i (omega (arith, after, next)) below))
-          | inr not ↦ new_link i (omega (arith, h, not))
-        ]
-
-    pub last_kept : (last : ℕ) → slice_index jobs (length tables - 1) ≡ last → slice_index (set jobs before writer) (length tables - 1) ≡ last
-    last_kept last is = kept (length tables - 1) (omega (arith, within)) ∙ is
-
-  pub all_placed : (jobs : List ℕ) (place : ℕ) → place ≡ 0 → 0 < length tables → AreBackwardFrom tables place jobs → AreBackwardJobs tables (length tables) jobs
-  all_placed jobs place none some so_far = record { some = some; one_a_group = so_far.one_a_group; linked = λ i h. so_far.linked i (omega (arith, none)) h }
 
   pub all_linked : (jobs : List ℕ) → AreBackwardJobs tables (length tables) jobs → AreBackwardFrom tables 0 jobs
   all_linked jobs are = record { one_a_group = are.one_a_group; linked = λ i h. are.linked i }
@@ -149,10 +99,6 @@ module _ (tables : List GroupMoments) where
   last_is : (chain : JobChain) → AreBackwardJobs tables (length tables) chain.jobs → last_job chain ≡ slice_index chain.jobs (length tables - 1)
   last_is chain are = ap (λ n. slice_index chain.jobs (n - 1)) are.one_a_group
 
-  pub no_backward_jobs : (last to : ℕ) → ((jobs : List ℕ) → AreBackwardJobs tables (length tables) jobs → slice_index jobs (length tables - 1) ≡ last → ⊥)
-      → (chain : JobChain) → IsBackwardTo tables last to chain → ⊥
-  no_backward_jobs last to none chain is = none chain.jobs is.jobs (sym (last_is chain is.jobs) ∙ is.is_last)
-
   -- no chain is there where the first of its jobs doesn't read
   pub no_first_read : (last to : ℕ) (jobs : List ℕ) → AreBackwardJobs tables (length tables) jobs → slice_index jobs (length tables - 1) ≡ last
       → moment_at (reads_in tables 0) (slice_index jobs 0) ≡ None → (chain : JobChain) → IsBackwardTo tables last to chain → ⊥
@@ -162,15 +108,6 @@ module _ (tables : List GroupMoments) where
       (length tables - 1) 0 (omega (arith, are.some)) (omega arith) in
       let has : moment_at (reads_in tables 0) (slice_index jobs 0) ≡ Some chain.from = ap (moment_at (reads_in tables 0)) (sym same) ∙ is.from in
       cc
-
-  pub backward_chain : (last to from : ℕ) (jobs : List ℕ) → AreBackwardJobs tables (length tables) jobs → slice_index jobs (length tables - 1) ≡ last
-      → moment_at (reads_in tables 0) (slice_index jobs 0) ≡ Some from → IsBackwardTo tables last to (record { from = from; to = to; jobs = jobs })
-  backward_chain last to from jobs are is_last reads = record {
-    jobs = are;
-    from = reads;
-    is_last = ap (λ n. slice_index jobs (n - 1)) are.one_a_group ∙ is_last;
-    is_to = refl;
-  }
 
   module _ (writes : List (Option ℕ)) (same : writes ≡ writes_in tables (length tables - 1)) (last : ℕ) where
     at_writes : (job t : ℕ) → moment_at writes job ≡ Some t → (k : ℕ) → k ≡ job → moment_at (writes_in tables (length tables - 1)) k ≡ Some t

@@ -7,8 +7,7 @@ use Rattle.std.proofs.lemmas.Bool.{cases_lt, cases_eq}
 use Rattle.std.proofs.lemmas.List.{get_or_append_left}
 use Rattle.std.proofs.Math.Seq.{get_or-append_seam}
 use Rattle.std.proofs.lemmas.List.Elements.{All-nil, All-cons, All-append, Contains-append_left, Contains-append_right}
-use Rattle.cl_runs.specs.Chains.{JobChain, chain_length}
-use Rattle.cl_runs.specs.Measured.{IsLongest, IsMeasuredBy, IsCountOf}
+use Rattle.cl_runs.specs.{Chains.{JobChain, chain_length}, Measured.{IsLongest, IsMeasuredBy, IsCountOf}}
 use Rattle.cl_chain.proofs.DecidedMoments.{Decided}
 
 module _ (IsChain : JobChain → Type 0) (job_of : JobChain → ℕ) where

@@ -1,15 +1,9 @@
 -- When a job of a run reads and writes can be decided.
 use Rattle.std.proofs.Common.{◌≡◌, ℕ, suc, ◌+◌, ◌-◌, ◌<◌, ◌⊎◌, inl, inr, Some, length, refl, arith}
 use Rattle.std.proofs.lemmas.Bool.{cases_lt, cases_eq}
-use Rattle.cl_model.specs.declared.task.AccessKind.{AccessKind}
-use Rattle.cl_model.specs.declared.task.AccessKind.TheVariants.{Explicit, Implicit, Timed}
-use Rattle.cl_runs.specs.TaskTiming.{System, timing_at}
-use Rattle.cl_runs.specs.Table.{job_at}
-use Rattle.cl_runs.specs.Work.{work_before, work_through}
-use Rattle.cl_runs.specs.Run.{Run, jobs_of, entry_at, executed}
-use Rattle.cl_runs.specs.Moments.{Starts, Finishes, WritesAtDeadline, ReadsBy, WritesBy, Reads, Writes}
-use Rattle.cl_runs.proofs.Executed.{cases_entry}
-use Rattle.cl_runs.proofs.FirstBelow.{IsFirst, both_or_not, first_or_none}
+use Rattle.cl_model.specs.declared.task.AccessKind.{AccessKind, TheVariants.{Explicit, Implicit, Timed}}
+use Rattle.cl_runs.specs.{TaskTiming.{System, timing_at}, Table.job_at, Work.{work_before, work_through}, Run.{Run, jobs_of, entry_at, executed}, Moments.{Starts, Finishes, WritesAtDeadline, ReadsBy, WritesBy, Reads, Writes}}
+use Rattle.cl_runs.proofs.{Executed.cases_entry, FirstBelow.{IsFirst, both_or_not, first_or_none}}
 
 -- something holds, or it doesn't
 abbrev pub Decided : Type 0 → Type 0

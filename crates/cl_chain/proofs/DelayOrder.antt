@@ -1,25 +1,9 @@
 -- In a legal run a chain that takes an event on ends after its event arrives.
 use Rattle.std.proofs.Common.{◌≡◌, ℕ, zero, suc, ◌-◌, ◌<◌, ◌≤◌, List, length, subst, arith}
 use Rattle.std.specs.Prelude.{slice_index}
-use Rattle.cl_model.specs.declared.group.Step.{Step}
-use Rattle.cl_model.specs.declared.task.AccessKind.{AccessKind}
-use Rattle.cl_model.specs.declared.task.AccessKind.TheVariants.{Explicit, Implicit, Timed}
-use Rattle.cl_model.specs.Groups.{groups, group_at}
-use Rattle.cl_runs.specs.TaskTiming.{System, timing_at, IsSound}
-use Rattle.cl_runs.specs.Table.{job_at}
-use Rattle.cl_runs.specs.Run.{Run, jobs_of}
-use Rattle.cl_runs.specs.Legal.{IsLegal}
-use Rattle.cl_runs.specs.Moments.{Starts, ReadsBy, Writes}
-use Rattle.cl_runs.specs.MomentOrder.{AreInOrder}
-use Rattle.cl_runs.specs.Chains.{JobChain, last_group, first_job}
-use Rattle.cl_runs.specs.RunChains.{run_moments}
-use Rattle.cl_runs.specs.Delays.{IsDelayChain}
-use Rattle.cl_runs.proofs.Work.{places_rise}
-use Rattle.cl_runs.proofs.LegalFacts.{place_of_task}
-use Rattle.cl_runs.proofs.RunArrivals.{released_late}
-use Rattle.cl_runs.proofs.JobProgress.{starts_late}
-use Rattle.cl_runs.proofs.MomentFacts.{has_read}
-use Rattle.cl_runs.proofs.OrderedMoments.{run_in_order, run_has_read}
+use Rattle.cl_model.specs.{declared.{group.Step.Step, task.AccessKind.{AccessKind, TheVariants.{Explicit, Implicit, Timed}}}, Groups.{groups, group_at}}
+use Rattle.cl_runs.specs.{TaskTiming.{System, timing_at, IsSound}, Table.job_at, Run.{Run, jobs_of}, Legal.IsLegal, Moments.{Starts, ReadsBy, Writes}, MomentOrder.AreInOrder, Chains.{JobChain, last_group, first_job}, RunChains.run_moments, Delays.IsDelayChain}
+use Rattle.cl_runs.proofs.{Work.places_rise, LegalFacts.place_of_task, RunArrivals.released_late, JobProgress.starts_late, MomentFacts.has_read, OrderedMoments.{run_in_order, run_has_read}}
 
 module _ (system : System) (sound : IsSound system) (run : Run) (legal : IsLegal system run) where
   -- ---- one job

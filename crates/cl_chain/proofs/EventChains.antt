@@ -1,21 +1,10 @@
 -- Chains over moments with an event before each job of the first group are the chains of the run that take an event on.
 use Rattle.std.proofs.Common.{◌≡◌, ℕ, zero, suc, ◌+◌, ◌-◌, ◌<◌, ◌≤◌, Option, List, [], ◌∷◌, length, set, sym, ap, ◌∙◌, subst, arith}
 use Rattle.std.specs.Prelude.{slice_index}
-use Rattle.cl_model.specs.declared.group.Group.{Group}
-use Rattle.cl_model.specs.Groups.{group_at}
-use Rattle.cl_runs.specs.TaskTiming.{System}
-use Rattle.cl_runs.specs.Run.{Run, jobs_of}
-use Rattle.cl_runs.specs.Moments.{Writes}
-use Rattle.cl_runs.specs.Chains.{Moments, IsEarliestReader, JobChain, first_group, last_group}
-use Rattle.cl_runs.specs.RunChains.{run_moments}
-use Rattle.cl_runs.specs.Delays.{IsDelayChain}
-use Rattle.cl_chain.specs.declared.group_moments.GroupMoments.{GroupMoments}
-use Rattle.cl_chain.specs.Inner.GroupTables.{moment_at, AreMomentsAt, reads_in, writes_in, AreTables}
-use Rattle.cl_chain.specs.Inner.Hops.{IsWrite, IsForwardHop}
-use Rattle.cl_chain.specs.Inner.ChainsOver.{IsForwardOver}
-use Rattle.cl_chain.specs.Inner.Events.{JobArrives, with_events, AreEventTables, after_event, IsDelayOver}
-use Rattle.cl_chain.proofs.ForwardFacts.{forward_written}
-use Rattle.cl_chain.proofs.RunTables.{read_there, there_read, write_there, there_write}
+use Rattle.cl_model.specs.{declared.group.Group.Group, Groups.group_at}
+use Rattle.cl_runs.specs.{TaskTiming.System, Run.{Run, jobs_of}, Moments.Writes, Chains.{Moments, IsEarliestReader, JobChain, first_group, last_group}, RunChains.run_moments, Delays.IsDelayChain}
+use Rattle.cl_chain.specs.{declared.group_moments.GroupMoments.GroupMoments, Inner.{GroupTables.{moment_at, AreMomentsAt, reads_in, writes_in, AreTables}, Hops.{IsWrite, IsForwardHop}, ChainsOver.IsForwardOver, Events.{JobArrives, with_events, AreEventTables, after_event, IsDelayOver}}}
+use Rattle.cl_chain.proofs.{ForwardFacts.forward_written, RunTables.{read_there, there_read, write_there, there_write}}
 
 module _ (system : System) (run : Run) (all : List Group) where
   abbrev moments : Moments

@@ -2,30 +2,13 @@
 use Rattle.std.proofs.Common.{◌≡◌, ℕ, zero, suc, ◌+◌, ◌-◌, ◌<◌, ◌≤◌, Option, Some, None, List, [], ◌∷◌, length, length-set, map, set, refl, sym, ap, ◌∙◌, subst, arith}
 use Rattle.std.specs.Prelude.{slice_index}
 use Rattle.std.proofs.lemmas.List.{get_or-set_same}
-use Rattle.cl_model.specs.declared.model.SystemModel.{SystemModel}
-use Rattle.cl_model.specs.declared.group.Group.{Group}
-use Rattle.cl_model.specs.Groups.{groups_at}
-use Rattle.cl_model.specs.Validity.{IsValid}
-use Rattle.cl_runs.specs.declared.job.Job.{Job}
-use Rattle.cl_runs.specs.Table.{no_job}
-use Rattle.cl_runs.specs.TaskTiming.{System}
-use Rattle.cl_runs.specs.SystemOf.{system_of}
-use Rattle.cl_runs.specs.Run.{Run, jobs_of, IsInForm}
-use Rattle.cl_runs.specs.Chains.{JobChain, first_job}
-use Rattle.cl_runs.specs.Delays.{IsDelayChain}
-use Rattle.cl_runs.proofs.ChainsUnique.{chain_same}
-use Rattle.cl_runs.proofs.ModelSystem.{system_sound}
+use Rattle.cl_model.specs.{declared.{model.SystemModel.SystemModel, group.Group.Group}, Groups.groups_at, Validity.IsValid}
+use Rattle.cl_runs.specs.{declared.job.Job.Job, Table.no_job, TaskTiming.System, SystemOf.system_of, Run.{Run, jobs_of, IsInForm}, Chains.{JobChain, first_job}, Delays.IsDelayChain}
+use Rattle.cl_runs.proofs.{ChainsUnique.chain_same, ModelSystem.system_sound}
 use Rattle.cl_check.specs.InOrder.{AreGroupsInOrder}
-use Rattle.cl_chain.specs.declared.group_moments.GroupMoments.{GroupMoments}
-use Rattle.cl_chain.specs.GreatestDelays.{IsGreatestDelay, IsGreatestDelayBy}
-use Rattle.cl_chain.specs.Inner.GroupTables.{moment_at, AreMomentsAt, NeverFall, writes_in}
-use Rattle.cl_chain.specs.Inner.ChainsOver.{IsForwardOver, AreForwardOrdered}
-use Rattle.cl_chain.specs.Inner.Events.{JobArrives, with_events, AreEventTables, after_event, IsDelayOver}
-use Rattle.cl_chain.proofs.ForwardFacts.{forward_written}
-use Rattle.cl_chain.proofs.GroupReads.{mapped_moments}
-use Rattle.cl_chain.proofs.MomentsInOrder.{moments_in_order}
-use Rattle.cl_chain.proofs.RunTables.{writes_never_fall}
-use Rattle.cl_chain.proofs.EventChains.{delay_to, delay_from}
+use Rattle.cl_chain.specs.{declared.group_moments.GroupMoments.GroupMoments, GreatestDelays.{IsGreatestDelay, IsGreatestDelayBy}, Inner.{GroupTables.{moment_at, AreMomentsAt, NeverFall, writes_in}, ChainsOver.{IsForwardOver, AreForwardOrdered}, Events.{JobArrives, with_events}}}
+use Rattle.cl_chain.specs.Inner.Events.{AreEventTables, after_event, IsDelayOver}
+use Rattle.cl_chain.proofs.{ForwardFacts.forward_written, GroupReads.mapped_moments, MomentsInOrder.moments_in_order, RunTables.writes_never_fall, EventChains.{delay_to, delay_from}}
 
 -- ---- arrivals
 

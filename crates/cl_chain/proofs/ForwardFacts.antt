@@ -3,10 +3,7 @@ use Rattle.std.proofs.Common.{◌≡◌, ℕ, zero, suc, ◌+◌, ◌-◌, ◌<�
 use Rattle.std.specs.Prelude.{slice_index}
 use Rattle.std.proofs.lemmas.Bool.{cases_lt}
 use Rattle.std.proofs.lemmas.List.{get_or_append_left, get_or_push}
-use Rattle.cl_chain.specs.declared.group_moments.GroupMoments.{GroupMoments}
-use Rattle.cl_chain.specs.Inner.GroupTables.{reads_in, writes_in}
-use Rattle.cl_chain.specs.Inner.Hops.{IsFirstReader, IsWrite, IsForwardHop}
-use Rattle.cl_chain.specs.Inner.ChainsOver.{AreForwardJobs, IsTail}
+use Rattle.cl_chain.specs.{declared.group_moments.GroupMoments.GroupMoments, Inner.{GroupTables.{reads_in, writes_in}, Hops.{IsFirstReader, IsWrite, IsForwardHop}, ChainsOver.{AreForwardJobs, IsTail}}}
 use Rattle.cl_chain.proofs.HopFacts.{write_once, forward_hop_once}
 
 -- ---- one job more

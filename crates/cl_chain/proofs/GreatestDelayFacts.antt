@@ -1,14 +1,7 @@
 -- Where no delay is negative the greatest is a longest chain. It is so in a run that shows the chain's groups of a legal one.
 use Rattle.std.proofs.Common.{ℕ, ◌<◌, Option, Some, None, arith}
-use Rattle.cl_model.specs.declared.model.SystemModel.{SystemModel}
-use Rattle.cl_model.specs.ByNumber.{chain_at}
-use Rattle.cl_model.specs.Groups.{groups_of, groups_at, steps_of}
-use Rattle.cl_model.specs.Validity.{IsValid}
-use Rattle.cl_runs.specs.SystemOf.{system_of}
-use Rattle.cl_runs.specs.Run.{Run}
-use Rattle.cl_runs.specs.Chains.{JobChain, first_job}
-use Rattle.cl_runs.specs.Delays.{IsDelayChain}
-use Rattle.cl_runs.specs.Measured.{IsMeasuredBy}
+use Rattle.cl_model.specs.{declared.model.SystemModel.SystemModel, ByNumber.chain_at, Groups.{groups_of, groups_at, steps_of}, Validity.IsValid}
+use Rattle.cl_runs.specs.{SystemOf.system_of, Run.Run, Chains.{JobChain, first_job}, Delays.IsDelayChain, Measured.IsMeasuredBy}
 use Rattle.cl_runs.proofs.ModelSystem.{system_sound}
 use Rattle.cl_run_data.specs.Parts.{ShowsGroups}
 use Rattle.cl_run_data.proofs.AlikeChains.{delay_alike}

@@ -1,27 +1,12 @@
 -- When the jobs of a task's runnable read and write, from their starts, finishes, arrivals and deadlines.
 use Rattle.std.proofs.Common.{◌≡◌, ℕ, ◌+◌, ◌-◌, ◌<◌, ◌≤◌, Option, Some, None, List, [], ◌∷◌, ◌++◌, length, get_or, map, refl, sym, ap, ◌∙◌, subst, arith}
 use Rattle.std.proofs.lemmas.List.{get_or-map, length-map}
-use Rattle.cl_model.specs.declared.task.AccessKind.{AccessKind}
-use Rattle.cl_model.specs.declared.task.AccessKind.TheVariants.{Explicit, Implicit, Timed}
-use Rattle.cl_model.specs.declared.model.SystemModel.{SystemModel}
-use Rattle.cl_model.specs.declared.group.Group.{Group}
-use Rattle.cl_model.specs.ByNumber.{task_at, deadline_of}
-use Rattle.cl_model.specs.Groups.{group_at}
-use Rattle.cl_runs.specs.declared.job.Job.{Job}
-use Rattle.cl_runs.specs.Table.{no_job, job_at}
-use Rattle.cl_runs.specs.TaskTiming.{System, Timing, timing_at}
-use Rattle.cl_runs.specs.SystemOf.{system_of}
-use Rattle.cl_runs.specs.Run.{Run, jobs_of}
-use Rattle.cl_runs.specs.Moments.{Starts, Finishes, JobFinishes, WritesAtDeadline, ReadsBy, WritesBy, Reads, Writes}
-use Rattle.cl_runs.proofs.ModelSystem.{timing_is, range_count_is}
-use Rattle.cl_runs.proofs.StartsFinishes.{starts_once, finishes_once}
-use Rattle.cl_runs.proofs.MomentFacts.{writes_once}
-use Rattle.cl_check.specs.declared.job_ends.End.{End}
-use Rattle.cl_check.specs.declared.job_ends.End.TheVariants.{Start, Finish}
-use Rattle.cl_check.specs.JobMoments.{IsMomentOf, EndsAt, AreEndsOfJobs}
+use Rattle.cl_model.specs.{declared.{task.AccessKind.{AccessKind, TheVariants.{Explicit, Implicit, Timed}}, model.SystemModel.SystemModel, group.Group.Group}, ByNumber.{task_at, deadline_of}, Groups.group_at}
+use Rattle.cl_runs.specs.{declared.job.Job.Job, Table.{no_job, job_at}, TaskTiming.{System, Timing, timing_at}, SystemOf.system_of, Run.{Run, jobs_of}, Moments.{Starts, Finishes, JobFinishes, WritesAtDeadline, ReadsBy, WritesBy, Reads, Writes}}
+use Rattle.cl_runs.proofs.{ModelSystem.{timing_is, range_count_is}, StartsFinishes.{starts_once, finishes_once}, MomentFacts.writes_once}
+use Rattle.cl_check.specs.{declared.job_ends.End.{End, TheVariants.{Start, Finish}}, JobMoments.{IsMomentOf, EndsAt, AreEndsOfJobs}}
 use Rattle.cl_check.proofs.MomentsFound.{each_pushed}
-use Rattle.cl_chain.specs.declared.group_moments.GroupMoments.{GroupMoments}
-use Rattle.cl_chain.specs.Inner.GroupTables.{moment_at, AreMomentsAt, no_table, reads_in, writes_in, HasFinishedBy, IsTimedWrite, AreTimedWrites}
+use Rattle.cl_chain.specs.{declared.group_moments.GroupMoments.GroupMoments, Inner.GroupTables.{moment_at, AreMomentsAt, no_table, reads_in, writes_in, HasFinishedBy, IsTimedWrite, AreTimedWrites}}
 use Rattle.cl_chain.proofs.MomentLists.{all_moments, same_moments}
 
 -- a list of what each item says

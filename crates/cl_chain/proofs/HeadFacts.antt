@@ -1,32 +1,10 @@
 -- Heads: from where the backward chains to the jobs of a group last.
-use Rattle.std.proofs.Common.{◌≡◌, ℕ, suc, ◌+◌, ◌<◌, Option, Some, None, List, length, sym, ap, ◌∙◌, subst, arith}
-use Rattle.cl_check.specs.JobMoments.{IsMomentOf}
-use Rattle.cl_chain.specs.declared.group_moments.GroupMoments.{GroupMoments}
-use Rattle.cl_chain.specs.declared.hops.Writers.{Writers}
-use Rattle.cl_chain.specs.Inner.GroupTables.{moment_at, AreMomentsAt, NeverFall, reads_in, writes_in}
-use Rattle.cl_chain.specs.Inner.Hops.{IsLastWriter, IsBackwardHop, ArePassed, ArePassedFrom, GoesOnFrom}
-use Rattle.cl_chain.specs.Inner.ChainsOver.{IsHead}
-use Rattle.cl_chain.proofs.MomentLists.{same_some, has_place}
-use Rattle.cl_chain.proofs.HopFacts.{backward_hop_once, passed_later, none_passed}
+use Rattle.std.proofs.Common.{◌≡◌, ℕ, suc, ◌<◌, Option, Some, List, length, sym, ap, ◌∙◌, subst}
+use Rattle.cl_chain.specs.{declared.group_moments.GroupMoments.GroupMoments, Inner.{GroupTables.{moment_at, AreMomentsAt, reads_in, writes_in}, Hops.{IsLastWriter, GoesOnFrom}, ChainsOver.IsHead}}
+use Rattle.cl_chain.proofs.{MomentLists.{same_some, has_place}, HopFacts.backward_hop_once}
 
 module _ (writes reads : List (Option ℕ)) where
   -- ---- the walk
-
-  pub none_passed_from : ArePassedFrom writes reads (record { passed = 0; last = None }) 0
-  none_passed_from = record {
-    last = λ job last. omega (arith, last.below);
-    each = λ job read h at. none_passed writes read;
-  }
-
-  pub passed_next : (writers : Writers) (job : ℕ) → ArePassedFrom writes reads writers job → ArePassedFrom writes reads writers (job + 1)
-  passed_next writers job passed = record { last = passed.last; each = λ later read h at. passed.each later read (omega (arith, h)) at }
-
-  pub passed_from : NeverFall reads → (writers : Writers) (job read : ℕ) → moment_at reads job ≡ Some read → ArePassed writes writers read
-      → ArePassedFrom writes reads writers (job + 1)
-  passed_from order writers job read has passed = record {
-    last = passed.last;
-    each = λ later r h at. passed_later writes writers read r (order.in_order job later read r (omega (arith, h)) has at) passed;
-  }
 
   -- ---- one job
 
@@ -39,21 +17,7 @@ module _ (writes reads : List (Option ℕ)) where
     pub goes_from_within : (job t : ℕ) → GoesOnFrom writes reads heads job t → job < length reads
     goes_from_within job t goes = has_place reads job goes.hop.read goes.hop.reads_then
 
-    pub head_unread : (job : ℕ) → moment_at reads job ≡ None → (from : ℕ) → GoesOnFrom writes reads heads job from → ⊥
-    head_unread job none from goes = let has = goes.hop.reads_then in cc
-
     module _ (job read : ℕ) (has : moment_at reads job ≡ Some read) where
-      same_hop : (writer : ℕ) → IsLastWriter writes read writer → IsBackwardHop writes reads writer job
-      same_hop writer is = record { read = read; reads_then = has; is_writer = is }
-
-      pub head_written : (writer : ℕ) → IsLastWriter writes read writer → (found : Option ℕ) → moment_at heads writer ≡ found
-          → IsMomentOf (GoesOnFrom writes reads heads job) found
-      head_written writer is (Some from) at = record { writer = writer; hop = same_hop writer is; head = at }
-      head_written writer is None at = λ from goes.
-          let same : goes.writer ≡ writer = backward_hop_once writes reads job goes.writer writer goes.hop (same_hop writer is) in
-          let there : moment_at heads writer ≡ Some from = ap (moment_at heads) (sym same) ∙ goes.head in
-          cc
-
       pub head_unwritten : ((writer : ℕ) → IsLastWriter writes read writer → ⊥) → (from : ℕ) → GoesOnFrom writes reads heads job from → ⊥
       head_unwritten none from goes =
           let same : goes.hop.read ≡ read = same_some (moment_at reads job) goes.hop.read read goes.hop.reads_then has in
@@ -62,13 +26,6 @@ module _ (writes reads : List (Option ℕ)) where
 -- ---- groups
 
 module _ (tables : List GroupMoments) where
-  -- the reads of the first group are its heads
-  pub first_heads : (moments : List (Option ℕ)) → moments ≡ reads_in tables 0 → AreMomentsAt (IsHead tables 0) moments
-  first_heads moments same = record {
-    sound = λ job t at. ap (λ (xs : List (Option ℕ)). moment_at xs job) (sym same) ∙ at;
-    complete = λ job t head. ap (λ (xs : List (Option ℕ)). moment_at xs job) same ∙ head;
-  }
-
   pub head_found : (i place : ℕ) → suc i ≡ place → (ws rs hs heads : List (Option ℕ)) → ws ≡ writes_in tables i → rs ≡ reads_in tables place
       → hs ≡ heads → AreMomentsAt (IsHead tables i) heads → (moments : List (Option ℕ)) → AreMomentsAt (GoesOnFrom ws rs hs) moments
       → AreMomentsAt (IsHead tables place) moments

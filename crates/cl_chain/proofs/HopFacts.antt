@@ -3,9 +3,7 @@ use Rattle.std.proofs.Common.{◌≡◌, ℕ, ◌+◌, ◌<◌, ◌≤◌, inl, 
 use Rattle.std.specs.Prelude.{is_some}
 use Rattle.std.proofs.lemmas.Bool.{cases_lt}
 use Rattle.cl_check.specs.JobMoments.{IsMomentOf}
-use Rattle.cl_chain.specs.declared.hops.Writers.{Writers}
-use Rattle.cl_chain.specs.Inner.GroupTables.{moment_at, NeverFall}
-use Rattle.cl_chain.specs.Inner.Hops.{IsFirstReader, IsLastWriter, IsWrite, IsForwardHop, IsBackwardHop, IsLastBelow, ArePassed}
+use Rattle.cl_chain.specs.{declared.hops.Writers.Writers, Inner.{GroupTables.{moment_at, NeverFall}, Hops.{IsFirstReader, IsLastWriter, IsWrite, IsForwardHop, IsBackwardHop, IsLastBelow, ArePassed}}}
 use Rattle.cl_chain.proofs.MomentLists.{same_some, has_place}
 
 -- ---- readers
@@ -45,17 +43,6 @@ pub backward_hop_once : (writes reads : List (Option ℕ)) (job j k : ℕ) → I
 backward_hop_once writes reads job j k one other =
     writer_once writes other.read j k
     (subst (λ r. IsLastWriter writes r j) (same_some (moment_at reads job) one.read other.read one.reads_then other.reads_then) one.is_writer) other.is_writer
-
--- nothing is passed at the beginning
-pub none_passed : (writes : List (Option ℕ)) (by : ℕ) → ArePassed writes (record { passed = 0; last = None }) by
-none_passed writes by = record { last = λ job last. omega (arith, last.below); early = λ job w below. absurd (omega arith) }
-
--- what is passed stays so for later reads
-pub passed_later : (writes : List (Option ℕ)) (writers : Writers) (s t : ℕ) → s ≤ t → ArePassed writes writers s → ArePassed writes writers t
-passed_later writes writers s t h passed = record {
-  last = passed.last;
-  early = λ job w below has. omega (arith, h, passed.early job w below has);
-}
 
 module _ (writes : List (Option ℕ)) (writers : Writers) (read : ℕ) (passed : ArePassed writes writers read) where
   -- one more job, which writes by the read or not at all

@@ -2,8 +2,7 @@
 use Rattle.std.proofs.Common.{◌≡◌, ℕ, zero, suc, ◌-◌, ◌<◌, ◌≤◌, ◌⊎◌, inl, inr, List, [], ◌∷◌, length, refl, sym, ap, ◌∙◌, subst, arith}
 use Rattle.std.specs.Prelude.{slice_index}
 use Rattle.std.proofs.lemmas.Bool.{cases_eq}
-use Rattle.cl_model.specs.declared.group.Group.{Group}
-use Rattle.cl_model.specs.Groups.{group_at}
+use Rattle.cl_model.specs.{declared.group.Group.Group, Groups.group_at}
 use Rattle.cl_runs.specs.Chains.{Moments, HasWritten, IsEarliestReader, IsLatestWriter}
 use Rattle.cl_runs.proofs.FirstBelow.{IsFirst, both_or_not, first_or_none}
 use Rattle.cl_chain.proofs.DecidedMoments.{Decided, lt_or_not}

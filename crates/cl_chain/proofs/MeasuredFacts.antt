@@ -4,16 +4,9 @@ use Rattle.std.specs.Prelude.{slice_index}
 use Rattle.std.proofs.lemmas.List.{ext_get_or}
 use Rattle.cl_runs.specs.Chains.{JobChain, first_job, last_job}
 use Rattle.cl_runs.proofs.ChainsUnique.{chain_same}
-use Rattle.cl_chain.specs.declared.group_moments.GroupMoments.{GroupMoments}
-use Rattle.cl_chain.specs.Inner.GroupTables.{moment_at, AreMomentsAt, reads_in, writes_in}
-use Rattle.cl_chain.specs.Inner.Hops.{IsWrite, IsOfNext, IsBeforeNext}
-use Rattle.cl_chain.specs.Inner.ChainsOver.{IsForwardOver, IsTail, AreBackwardJobs, IsHead, last_writes, IsAgeOver, IsReducedOver}
-use Rattle.cl_chain.specs.declared.rows.Rows.{Rows}
-use Rattle.cl_chain.specs.Inner.Rows.{IsOfRows, AreRows, AreRowsOf}
-use Rattle.cl_chain.proofs.MomentLists.{same_some}
-use Rattle.cl_chain.proofs.HopFacts.{write_once}
-use Rattle.cl_chain.proofs.ForwardFacts.{forward_same, forward_written, tail_jobs, jobs_tail}
-use Rattle.cl_chain.proofs.BackwardFacts.{backward_same, all_linked, IsHeadOf, head_jobs, jobs_head}
+use Rattle.cl_chain.specs.{declared.{group_moments.GroupMoments.GroupMoments, rows.Rows.Rows}, Inner.{GroupTables.{moment_at, AreMomentsAt, reads_in, writes_in}, Hops.{IsWrite, IsOfNext, IsBeforeNext}, ChainsOver.{IsForwardOver, IsTail, AreBackwardJobs, IsHead, last_writes, IsAgeOver}}}
+use Rattle.cl_chain.specs.Inner.{ChainsOver.IsReducedOver, Rows.{IsOfRows, AreRows, AreRowsOf}}
+use Rattle.cl_chain.proofs.{MomentLists.same_some, HopFacts.write_once, ForwardFacts.{forward_same, forward_written, tail_jobs, jobs_tail}, BackwardFacts.{backward_same, all_linked, IsHeadOf, head_jobs, jobs_head}}
 
 -- ---- forward
 

@@ -1,9 +1,8 @@
 -- Lists of the moments of jobs, as they are made job by job.
-use Rattle.std.proofs.Common.{◌≡◌, ℕ, ◌<◌, inl, inr, Option, Some, None, List, [], ◌∷◌, ◌++◌, length, sym, ap, subst}
+use Rattle.std.proofs.Common.{◌≡◌, ℕ, ◌<◌, inl, inr, Option, Some, None, List, length, ap, subst}
 use Rattle.std.proofs.lemmas.Bool.{cases_lt}
 use Rattle.std.proofs.lemmas.List.{get_or_past}
 use Rattle.cl_check.specs.JobMoments.{IsMomentOf}
-use Rattle.cl_check.proofs.MomentsFound.{each_pushed}
 use Rattle.cl_chain.specs.Inner.GroupTables.{moment_at, AreMomentsAt}
 
 -- a moment is one
@@ -20,9 +19,6 @@ has_place moments job t has = elim (cases_lt job (length moments)) [
 pub at_some : (IsAt : ℕ → Type 0) (found : Option ℕ) → IsMomentOf IsAt found → (t : ℕ) → found ≡ Some t → IsAt t
 at_some IsAt found is t same = subst (IsMomentOf IsAt) same is
 
-pub at_none : (IsAt : ℕ → Type 0) (found : Option ℕ) → IsMomentOf IsAt found → found ≡ None → (t : ℕ) → IsAt t → ⊥
-at_none IsAt found is same = subst (IsMomentOf IsAt) same is
-
 pub the_moment : (IsAt : ℕ → Type 0) (found : Option ℕ) → IsMomentOf IsAt found → ((s t : ℕ) → IsAt s → IsAt t → s ≡ t) → (t : ℕ) → IsAt t → found ≡ Some t
 the_moment IsAt None is once t here = absurd (is t here)
 the_moment IsAt (Some s) is once t here = ap Some (once s t is here)
@@ -37,13 +33,6 @@ module _ (IsAt : (job t : ℕ) → Type 0) where
     complete = λ job t here. the_moment (IsAt job) (moment_at moments job) (each job (within job t here)) (once job) t here;
   }
 
-  -- one job more
-  pub moment_pushed : (moments : List (Option ℕ)) (n : ℕ) (found : Option ℕ) → length moments ≡ n
-      → ((job : ℕ) → job < length moments → IsMomentOf (IsAt job) (moment_at moments job)) → IsMomentOf (IsAt n) found
-      → (job : ℕ) → job < length (moments ++ found ∷ []) → IsMomentOf (IsAt job) (moment_at (moments ++ found ∷ []) job)
-  moment_pushed moments n found count each last =
-      each_pushed (λ job (o : Option ℕ). IsMomentOf (IsAt job) o) moments found None each (subst (λ k. IsMomentOf (IsAt k) found) (sym count) last)
-
 -- the moments of one thing are those of another
 pub same_moments : (IsAt Other : (job t : ℕ) → Type 0) (moments : List (Option ℕ)) → ((job t : ℕ) → IsAt job t → Other job t)
     → ((job t : ℕ) → Other job t → IsAt job t) → AreMomentsAt IsAt moments → AreMomentsAt Other moments
@@ -51,8 +40,3 @@ same_moments IsAt Other moments to from are = record {
   sound = λ job t has. to job t (are.sound job t has);
   complete = λ job t here. are.complete job t (from job t here);
 }
-
--- one moment a job
-pub moment_once : (IsAt : (job t : ℕ) → Type 0) (moments : List (Option ℕ)) → AreMomentsAt IsAt moments → (job s t : ℕ)
-    → IsAt job s → IsAt job t → s ≡ t
-moment_once IsAt moments are job s t one other = same_some (moment_at moments job) s t (are.complete job s one) (are.complete job t other)

@@ -1,24 +1,8 @@
 -- In a run in order the reads and the writes of a task rise with the job, and a job that has written has read before.
 use Rattle.std.proofs.Common.{◌≡◌, ℕ, ◌<◌, ◌≤◌, List, length, refl, arith}
-use Rattle.cl_model.specs.declared.group.Group.{Group}
-use Rattle.cl_model.specs.declared.group.Step.{Step}
-use Rattle.cl_model.specs.declared.task.AccessKind.{AccessKind}
-use Rattle.cl_model.specs.declared.task.AccessKind.TheVariants.{Explicit, Implicit, Timed}
-use Rattle.cl_model.specs.Groups.{groups, group_at}
-use Rattle.cl_runs.specs.TaskTiming.{System, timing_at, IsSound}
-use Rattle.cl_runs.specs.Table.{job_at}
-use Rattle.cl_runs.specs.Run.{Run, jobs_of, core_entries, executed, IsInForm}
-use Rattle.cl_runs.specs.Work.{work_before, work_through}
-use Rattle.cl_runs.specs.Moments.{Starts, Finishes, ReadsBy, WritesBy}
-use Rattle.cl_runs.specs.MomentOrder.{AreInOrder, HaveReadBeforeWriting}
-use Rattle.cl_runs.specs.RunChains.{run_moments}
-use Rattle.cl_runs.proofs.Climbing.{climb_lt}
-use Rattle.cl_runs.proofs.Executed.{executed_climbs}
-use Rattle.cl_runs.proofs.Work.{work_rises, places_rise}
-use Rattle.cl_runs.proofs.LegalFacts.{place_of_task}
-use Rattle.cl_runs.proofs.StartsFinishes.{starts_before}
-use Rattle.cl_runs.proofs.GroupPlaces.{groups_forward}
-use Rattle.cl_runs.proofs.OrderedMoments.{run_unique}
+use Rattle.cl_model.specs.{declared.{group.{Group.Group, Step.Step}, task.AccessKind.{AccessKind, TheVariants.{Explicit, Implicit, Timed}}}, Groups.{groups, group_at}}
+use Rattle.cl_runs.specs.{TaskTiming.{System, timing_at, IsSound}, Table.job_at, Run.{Run, jobs_of, core_entries, executed, IsInForm}, Work.{work_before, work_through}, Moments.{Starts, Finishes, ReadsBy, WritesBy}, MomentOrder.{AreInOrder, HaveReadBeforeWriting}, RunChains.run_moments}
+use Rattle.cl_runs.proofs.{Climbing.climb_lt, Executed.executed_climbs, Work.{work_rises, places_rise}, LegalFacts.place_of_task, StartsFinishes.starts_before, GroupPlaces.groups_forward, OrderedMoments.run_unique}
 use Rattle.cl_check.specs.InOrder.{AreJobsInOrder, AreGroupsInOrder}
 use Rattle.cl_check.proofs.JobsInOrder.{job_time}
 

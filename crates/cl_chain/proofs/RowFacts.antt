@@ -1,77 +1,13 @@
 -- Rows of starts and ends: how they are made, and what the longest of them is among chains.
-use Rattle.std.proofs.Common.{◌≡◌, ℕ, zero, suc, ◌+◌, ◌-◌, ◌<◌, ◌≤◌, inl, inr, Option, Some, None, List, [], ◌∷◌, ◌++◌, length, length-append, get_or, refl, sym, ap, ◌∙◌, subst, arith}
+use Rattle.std.proofs.Common.{◌≡◌, ℕ, zero, suc, ◌-◌, ◌<◌, ◌≤◌, inl, inr, Option, Some, None, List, [], ◌∷◌, ◌++◌, length, length-append, get_or, refl, sym, ap, ◌∙◌, subst, arith}
 use Rattle.std.specs.Prelude.{slice_index}
 use Rattle.std.proofs.lemmas.Bool.{cases_lt}
 use Rattle.std.proofs.lemmas.List.{get_or_append_left, get_or_push}
-use Rattle.cl_runs.specs.Chains.{JobChain, chain_length, first_job}
-use Rattle.cl_runs.specs.Measured.{IsMeasuredBy, IsCountOf}
-use Rattle.cl_chain.specs.declared.rows.Rows.{Rows}
-use Rattle.cl_chain.specs.GreatestDelays.{IsGreatestDelayBy}
-use Rattle.cl_chain.specs.JobChains.{IsChainOf}
-use Rattle.cl_chain.specs.Inner.GroupTables.{moment_at}
-use Rattle.cl_chain.specs.Inner.Rows.{AreRowsBelow, IsLongestRow, IsGreatestRow, IsOfRows, AreRowsOf}
+use Rattle.cl_runs.specs.{Chains.{JobChain, chain_length, first_job}, Measured.{IsMeasuredBy, IsCountOf}}
+use Rattle.cl_chain.specs.{declared.rows.Rows.Rows, GreatestDelays.IsGreatestDelayBy, JobChains.IsChainOf, Inner.{GroupTables.moment_at, Rows.{AreRowsBelow, IsLongestRow, IsGreatestRow, IsOfRows, AreRowsOf}}}
 use Rattle.cl_chain.proofs.MomentLists.{same_some, has_place}
-use Rattle.cl_chain.proofs.ForwardFacts.{job_before, job_pushed}
 
 -- ---- one row more
-
-module _ (n : ℕ) (starts ends : List (Option ℕ)) (jobs froms tos : List ℕ) (rows : AreRowsBelow n starts ends jobs froms tos) where
-  pub row_missing : ((from to : ℕ) → moment_at starts n ≡ Some from → moment_at ends n ≡ Some to → ⊥) → AreRowsBelow (n + 1) starts ends jobs froms tos
-  row_missing none = record {
-    as_many_starts = rows.as_many_starts;
-    as_many_ends = rows.as_many_ends;
-    below = λ i h. omega (arith, rows.below i h);
-    starts_then = rows.starts_then;
-    ends_then = rows.ends_then;
-    rise = rows.rise;
-    complete = λ job from to below start end. elim (cases_lt job n) [
-      | inl before ↦ rows.complete job from to before start end
-      | inr not ↦
-          let here : job ≡ n = omega arith in
-          absurd (none from to (ap (moment_at starts) (sym here) ∙ start) (ap (moment_at ends) (sym here) ∙ end))
-    ];
-  }
-
-  module _ (from to : ℕ) (start : moment_at starts n ≡ Some from) (end : moment_at ends n ≡ Some to) where
-    count : length (jobs ++ n ∷ []) ≡ suc (length jobs)
-    count = omega (arith, length-append jobs (n ∷ []))
-
-    each : (P : ℕ → ℕ → ℕ → Type 0) → ((i : ℕ) → i < length jobs → P (slice_index jobs i) (slice_index froms i) (slice_index tos i)) → P n from to
-        → (i : ℕ) → i < length (jobs ++ n ∷ []) → P (slice_index (jobs ++ n ∷ []) i) (slice_index (froms ++ from ∷ []) i) (slice_index (tos ++ to ∷ []) i)
-    each P old new i h = elim (cases_lt i (length jobs)) [
-      | inl before ↦
-          subst (λ x. P x (slice_index (froms ++ from ∷ []) i) (slice_index (tos ++ to ∷ []) i)) (sym (job_before jobs n i before))
-          (subst (λ x. P (slice_index jobs i) x (slice_index (tos ++ to ∷ []) i)) (sym (job_before froms from i (omega (arith, before, rows.as_many_starts))))
-          (subst (λ x. P (slice_index jobs i) (slice_index froms i) x) (sym (job_before tos to i (omega (arith, before, rows.as_many_ends)))) (old i before)))
-      | inr not ↦
-          let here : length jobs ≡ i = omega (arith, h, not, count) in
-          subst (λ x. P x (slice_index (froms ++ from ∷ []) i) (slice_index (tos ++ to ∷ []) i)) (sym (job_pushed jobs n i here))
-          (subst (λ x. P n x (slice_index (tos ++ to ∷ []) i)) (sym (job_pushed froms from i (rows.as_many_starts ∙ here)))
-          (subst (λ x. P n from x) (sym (job_pushed tos to i (rows.as_many_ends ∙ here))) new))
-    ]
-
-    pub row_pushed : AreRowsBelow (n + 1) starts ends (jobs ++ n ∷ []) (froms ++ from ∷ []) (tos ++ to ∷ [])
-    row_pushed = record {
-      as_many_starts = omega (arith, count, length-append froms (from ∷ []), rows.as_many_starts);
-      as_many_ends = omega (arith, count, length-append tos (to ∷ []), rows.as_many_ends);
-      below = each (λ job f t. job < n + 1) (λ i h. omega (arith, rows.below i h)) (omega arith);
-      starts_then = each (λ job f t. moment_at starts job ≡ Some f) rows.starts_then start;
-      ends_then = each (λ job f t. moment_at ends job ≡ Some t) rows.ends_then end;
-      rise = λ i j less h. elim (cases_lt j (length jobs)) [
-        | inl before ↦ omega (arith, less, rows.rise i j less before, job_before jobs n i (omega arith), job_before jobs n j before)
-        | inr not ↦ omega (
-          arith,
-          job_before jobs n i (omega (arith, less, h, not, count)),
-          job_pushed jobs n j (omega (arith, h, not, count)),
-          rows.below i (omega (arith, less, h, not, count)),
-        )
-      ];
-      complete = λ job f t below at_start at_end. elim (cases_lt job n) [
-        | inl before ↦
-            let (i, h, is) = rows.complete job f t before at_start at_end in (i, omega (arith, h, count), job_before jobs n i h ∙ is)
-        | inr not ↦ (length jobs, omega (arith, count), omega (arith, job_pushed jobs n (length jobs) refl, not, below))
-      ];
-    }
 
 -- ---- rows and chains
 

@@ -1,28 +1,14 @@
 -- The lists of moments of a run's groups: complete chains over them are those of the run.
 use Rattle.std.proofs.Common.{◌≡◌, ℕ, suc, ◌+◌, ◌-◌, ◌<◌, ◌≤◌, Option, Some, None, List, length, sym, ap, ◌∙◌, subst, arith}
 use Rattle.std.specs.Prelude.{slice_index}
-use Rattle.cl_model.specs.declared.model.SystemModel.{SystemModel}
-use Rattle.cl_model.specs.declared.group.Group.{Group}
-use Rattle.cl_model.specs.ByNumber.{chain_at}
-use Rattle.cl_model.specs.Groups.{groups_of, groups_at, group_at, steps_of}
-use Rattle.cl_model.specs.Validity.{IsValid}
-use Rattle.cl_runs.specs.TaskTiming.{System}
-use Rattle.cl_runs.specs.SystemOf.{system_of}
-use Rattle.cl_runs.specs.Run.{Run, IsInForm}
-use Rattle.cl_runs.specs.Chains.{JobChain, IsEarliestReader, IsLatestWriter, last_group, first_job, last_job, IsForwardChain, AreBackwardLinks, IsAgeChain, IsReducedChain}
-use Rattle.cl_runs.specs.RunChains.{run_moments}
-use Rattle.cl_runs.specs.MomentOrder.{AreInOrder, HaveReadBeforeWriting}
-use Rattle.cl_runs.specs.Measured.{IsMeasuredBy, IsCountOf, Measured, IsMeasured}
-use Rattle.cl_runs.proofs.ModelSystem.{system_sound}
-use Rattle.cl_runs.proofs.ChainsOrdered.{forward_ordered, age_ordered, reduced_ordered}
+use Rattle.cl_model.specs.{declared.{model.SystemModel.SystemModel, group.Group.Group}, ByNumber.chain_at, Groups.{groups_of, groups_at, group_at, steps_of}, Validity.IsValid}
+use Rattle.cl_runs.specs.{TaskTiming.System, SystemOf.system_of, Run.{Run, IsInForm}, Chains.{JobChain, IsEarliestReader, IsLatestWriter, last_group, first_job, last_job, IsForwardChain, AreBackwardLinks, IsAgeChain, IsReducedChain}, RunChains.run_moments, MomentOrder.AreInOrder}
+use Rattle.cl_runs.specs.{MomentOrder.HaveReadBeforeWriting, Measured.{IsMeasuredBy, IsCountOf, Measured, IsMeasured}}
+use Rattle.cl_runs.proofs.{ModelSystem.system_sound, ChainsOrdered.{forward_ordered, age_ordered, reduced_ordered}}
 use Rattle.cl_check.specs.InOrder.{AreGroupsInOrder}
-use Rattle.cl_chain.specs.declared.group_moments.GroupMoments.{GroupMoments}
-use Rattle.cl_chain.specs.JobChains.{IsChainOf}
-use Rattle.cl_chain.specs.Inner.GroupTables.{moment_at, NeverFall, reads_in, writes_in, AreTables}
-use Rattle.cl_chain.specs.Inner.Hops.{IsForwardHop, IsBackwardHop}
-use Rattle.cl_chain.specs.Inner.ChainsOver.{IsForwardOver, AreBackwardJobs, last_writes, IsAgeOver, IsReducedOver, AreOrdered, IsMeasuredOver}
-use Rattle.cl_chain.proofs.ForwardFacts.{forward_written}
-use Rattle.cl_chain.proofs.MomentsInOrder.{moments_in_order, have_read}
+use Rattle.cl_chain.specs.{declared.group_moments.GroupMoments.GroupMoments, JobChains.IsChainOf, Inner.{GroupTables.{moment_at, NeverFall, reads_in, writes_in, AreTables}, Hops.{IsForwardHop, IsBackwardHop}, ChainsOver.{IsForwardOver, AreBackwardJobs, last_writes, IsAgeOver}}}
+use Rattle.cl_chain.specs.Inner.ChainsOver.{IsReducedOver, AreOrdered, IsMeasuredOver}
+use Rattle.cl_chain.proofs.{ForwardFacts.forward_written, MomentsInOrder.{moments_in_order, have_read}}
 
 module _ (system : System) (run : Run) (all : List Group) (tables : List GroupMoments) (are : AreTables system run all tables) where
   -- ---- moments

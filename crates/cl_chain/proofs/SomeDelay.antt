@@ -3,19 +3,11 @@ use Rattle.std.proofs.Common.{◌≡◌, ℕ, zero, suc, ◌+◌, ◌-◌, ◌<�
 use Rattle.std.specs.Prelude.{slice_index}
 use Rattle.std.proofs.lemmas.Bool.{cases_lt, cases_eq}
 use Rattle.std.proofs.lemmas.List.{ext_get_or}
-use Rattle.cl_model.specs.declared.group.Group.{Group}
-use Rattle.cl_model.specs.Groups.{group_at}
-use Rattle.cl_runs.specs.TaskTiming.{System}
-use Rattle.cl_runs.specs.Table.{job_at}
-use Rattle.cl_runs.specs.Run.{Run, jobs_of}
-use Rattle.cl_runs.specs.Chains.{Moments, HasWritten, IsEarliestReader, JobChain, first_group, last_group, first_job, last_job}
-use Rattle.cl_runs.specs.RunChains.{run_moments}
-use Rattle.cl_runs.specs.Delays.{IsDelayChain}
+use Rattle.cl_model.specs.{declared.group.Group.Group, Groups.group_at}
+use Rattle.cl_runs.specs.{TaskTiming.System, Table.job_at, Run.{Run, jobs_of}, Chains.{Moments, HasWritten, IsEarliestReader, JobChain, first_group, last_group, first_job, last_job}, RunChains.run_moments, Delays.IsDelayChain}
 use Rattle.cl_runs.proofs.ChainsUnique.{chain_same}
 use Rattle.cl_chain.specs.GreatestDelays.{IsGreatestDelay, IsGreatestDelayBy}
-use Rattle.cl_chain.proofs.DecidedMoments.{Decided}
-use Rattle.cl_chain.proofs.LinkedJobs.{AreDecided, has_written, earliest, earliest_once, IsForward, HasForward, forward_or_not}
-use Rattle.cl_chain.proofs.SomeMeasured.{most_jobs, run_decided}
+use Rattle.cl_chain.proofs.{DecidedMoments.Decided, LinkedJobs.{AreDecided, has_written, earliest, earliest_once, IsForward, HasForward, forward_or_not}, SomeMeasured.{most_jobs, run_decided}}
 
 -- ---- a greatest delay of chains that are told by their first job
 

@@ -4,20 +4,11 @@ use Rattle.std.specs.Prelude.{slice_index, sum_by}
 use Rattle.std.proofs.lemmas.Bool.{cases_lt}
 use Rattle.std.proofs.lemmas.List.{get_or_past}
 use Rattle.std.proofs.lemmas.List.Sums.{get_or-le-sum_by}
-use Rattle.cl_model.specs.declared.group.Group.{Group}
-use Rattle.cl_model.specs.Groups.{group_at}
-use Rattle.cl_runs.specs.TaskTiming.{System}
-use Rattle.cl_runs.specs.Run.{Run, jobs_of}
-use Rattle.cl_runs.specs.Chains.{Moments, HasWritten, JobChain, first_group, last_group, first_job, last_job, IsForwardChain, AreBackwardLinks, IsAgeChain, IsReducedChain}
-use Rattle.cl_runs.specs.Measured.{Measured, IsMeasured}
-use Rattle.cl_runs.specs.MomentOrder.{AreUnique}
+use Rattle.cl_model.specs.{declared.group.Group.Group, Groups.group_at}
+use Rattle.cl_runs.specs.{TaskTiming.System, Run.{Run, jobs_of}, Chains.{Moments, HasWritten, JobChain, first_group, last_group, first_job, last_job, IsForwardChain, AreBackwardLinks, IsAgeChain, IsReducedChain}, Measured.{Measured, IsMeasured}, MomentOrder.AreUnique}
 use Rattle.cl_runs.specs.RunChains.{run_moments}
-use Rattle.cl_runs.proofs.ChainsUnique.{forward_once, age_once, reduced_once}
-use Rattle.cl_runs.proofs.FirstBelow.{both_or_not}
-use Rattle.cl_runs.proofs.MomentFacts.{reads_once, writes_once}
-use Rattle.cl_chain.proofs.ChainsByJob.{HasChain, some_count, some_measured}
-use Rattle.cl_chain.proofs.DecidedMoments.{Decided, some_read, some_write}
-use Rattle.cl_chain.proofs.LinkedJobs.{AreDecided, has_written, HasForward, forward_or_not, HasBackward, backward_or_not, backward_once}
+use Rattle.cl_runs.proofs.{ChainsUnique.{forward_once, age_once, reduced_once}, FirstBelow.both_or_not, MomentFacts.{reads_once, writes_once}}
+use Rattle.cl_chain.proofs.{ChainsByJob.{HasChain, some_count, some_measured}, DecidedMoments.{Decided, some_read, some_write}, LinkedJobs.{AreDecided, has_written, HasForward, forward_or_not, HasBackward, backward_or_not, backward_once}}
 
 module _ (moments : Moments) (bound : ℕ) (are : AreDecided moments bound) (groups : List Group) (some : 0 < length groups) where
   unique : AreUnique moments groups

@@ -1,15 +1,9 @@
 -- Tails: where the forward chains from the jobs of a group end.
-use Rattle.std.proofs.Common.{◌≡◌, ℕ, suc, ◌+◌, ◌<◌, inl, inr, Option, Some, None, List, [], ◌∷◌, length, get_or, drop, sym, ap, ◌∙◌, subst, arith}
+use Rattle.std.proofs.Common.{◌≡◌, ℕ, suc, ◌<◌, Option, Some, List, [], ◌∷◌, length, get_or, drop, sym, ap, ◌∙◌, subst, arith}
 use Rattle.std.proofs.Math.Seq.{drop-cons}
-use Rattle.std.proofs.lemmas.Bool.{cases_lt}
 use Rattle.std.proofs.lemmas.List.{drop_all, get_or_default}
-use Rattle.cl_check.specs.JobMoments.{IsMomentOf}
-use Rattle.cl_chain.specs.declared.group_moments.GroupMoments.{GroupMoments}
-use Rattle.cl_chain.specs.Inner.GroupTables.{moment_at, AreMomentsAt, NeverFall, no_table, reads_in, writes_in}
-use Rattle.cl_chain.specs.Inner.Hops.{IsFirstReader, IsWrite, GoesOnTo, AreBeforeWrites}
-use Rattle.cl_chain.specs.Inner.ChainsOver.{IsTail}
-use Rattle.cl_chain.proofs.MomentLists.{same_some, has_place}
-use Rattle.cl_chain.proofs.HopFacts.{write_once, forward_hop_once}
+use Rattle.cl_chain.specs.{declared.group_moments.GroupMoments.GroupMoments, Inner.{GroupTables.{moment_at, AreMomentsAt, no_table, reads_in, writes_in}, Hops.{IsWrite, GoesOnTo}, ChainsOver.IsTail}}
+use Rattle.cl_chain.proofs.{MomentLists.{same_some, has_place}, HopFacts.forward_hop_once}
 
 module _ (writes reads tails : List (Option ℕ)) where
   pub goes_to_once : (job s t : ℕ) → GoesOnTo writes reads tails job s → GoesOnTo writes reads tails job t → s ≡ t
@@ -19,52 +13,9 @@ module _ (writes reads tails : List (Option ℕ)) where
 
   pub goes_to_within : (job t : ℕ) → GoesOnTo writes reads tails job t → job < length writes
   goes_to_within job t goes = has_place writes job goes.hop.write goes.hop.is_write.writes_then
-
   -- ---- one job
 
-  module _ (job write : ℕ) (is_write : IsWrite writes job write) where
-    -- its reader's tail is its own
-    pub tail_read : (reader : ℕ) → IsFirstReader reads write reader → (found : Option ℕ) → moment_at tails reader ≡ found
-        → IsMomentOf (GoesOnTo writes reads tails job) found
-    tail_read reader is (Some to) at = record { reader = reader; hop = record { write = write; is_write = is_write; is_reader = is }; tail = at }
-    tail_read reader is None at = λ to goes.
-        let same : goes.reader ≡ reader = forward_hop_once writes reads job goes.reader reader goes.hop
-        (record { write = write; is_write = is_write; is_reader = is }) in
-        let there : moment_at tails reader ≡ Some to = ap (moment_at tails) (sym same) ∙ goes.tail in
-        cc
-
-    pub tail_unread : ((k r : ℕ) → moment_at reads k ≡ Some r → r < write) → (to : ℕ) → GoesOnTo writes reads tails job to → ⊥
-    tail_unread none to goes = omega (
-      arith,
-      write_once writes job goes.hop.write write goes.hop.is_write is_write,
-      goes.hop.is_reader.after,
-      none goes.reader goes.hop.is_reader.read goes.hop.is_reader.reads_then,
-    )
-
-  pub tail_unwritten : (job : ℕ) → ((write : ℕ) → IsWrite writes job write → ⊥) → (to : ℕ) → GoesOnTo writes reads tails job to → ⊥
-  tail_unwritten job none to goes = none goes.hop.write goes.hop.is_write
-
 -- ---- the walk
-
-module _ (writes reads : List (Option ℕ)) where
-  pub before_later : (place job : ℕ) → AreBeforeWrites reads writes place job → AreBeforeWrites reads writes place (job + 1)
-  before_later place job before = record { before = λ k r later w below read h. before.before k r later w below read (omega (arith, h)) }
-
-  -- the reads before a write are before later ones
-  pub before_writes : NeverFall writes → (job write : ℕ) → moment_at writes job ≡ Some write → (place : ℕ)
-      → ((k r : ℕ) → k < place → moment_at reads k ≡ Some r → r < write) → AreBeforeWrites reads writes place (job + 1)
-  before_writes order job write has place before = record {
-    before = λ k r later w below read h written.
-        omega (arith, before k r below read, order.in_order job later write w (omega (arith, h)) has written);
-  }
-
-  pub before_reader : NeverFall writes → (job write : ℕ) → moment_at writes job ≡ Some write → (reader : ℕ) → IsFirstReader reads write reader
-      → AreBeforeWrites reads writes reader (job + 1)
-  before_reader order job write has reader is = before_writes order job write has reader
-      (λ k r below read. elim (cases_lt r write) [
-        | inl before ↦ before
-        | inr not ↦ absurd (omega (arith, below, is.least k r read not))
-      ])
 
 -- ---- groups
 

@@ -2,8 +2,7 @@
 use Rattle.std.specs.Prelude.{◌≡◌, ℕ, Option, Some, None}
 use Rattle.cl_runs.specs.Chains as chains
 use Rattle.cl_runs.specs.Measured as measured
-use Rattle.cl_chain.specs.declared.job_chain.JobChain.{JobChain}
-use Rattle.cl_chain.specs.declared.job_chain.Measured.{Measured}
+use Rattle.cl_chain.specs.declared.job_chain.{JobChain.JobChain, Measured.Measured}
 
 -- an answer as a job chain of the definitions
 abbrev pub job_chain_of : JobChain → chains.JobChain

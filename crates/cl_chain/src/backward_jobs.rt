@@ -2,10 +2,7 @@
 ghost use Rattle.std.specs.Prelude.{◌≡◌, ℕ, ◌+◌, ◌-◌, ◌<◌, List, length, slice_index, Some, MatchOption, IfOk};
 ghost use Rattle.cl_runs.specs.Chains.{last_job};
 ghost use Rattle.cl_check.specs.JobMoments.{IsMomentOf};
-ghost use Rattle.cl_chain.specs.JobChains.{option_of, IsChainOf};
-ghost use Rattle.cl_chain.specs.Inner.GroupTables.{moment_at, NeverFall, writes_in};
-ghost use Rattle.cl_chain.specs.Inner.Hops.{IsBackwardHop, IsNextWrite};
-ghost use Rattle.cl_chain.specs.Inner.ChainsOver.{AreBackwardJobs, IsBackwardTo, IsTheChain, IsAgeOver, IsReducedOver};
+ghost use Rattle.cl_chain.specs.{JobChains.{option_of, IsChainOf}, Inner.{GroupTables.{moment_at, NeverFall, writes_in}, Hops.{IsBackwardHop, IsNextWrite}, ChainsOver.{AreBackwardJobs, IsBackwardTo, IsTheChain, IsAgeOver, IsReducedOver}}};
 
 use crate::group_moments::GroupMoments;
 use crate::hops::{Writers, moment_at};

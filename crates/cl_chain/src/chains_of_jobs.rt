@@ -1,10 +1,7 @@
 //! The complete chains of a job. Moments are in ticks.
 ghost use Rattle.std.specs.Prelude.{◌<◌, length, IfOk};
 ghost use Rattle.cl_model.specs.Groups.{groups_at};
-ghost use Rattle.cl_runs.specs.SystemOf.{system_of};
-ghost use Rattle.cl_runs.specs.Run.{IsInForm};
-ghost use Rattle.cl_runs.specs.Chains.{first_job, last_job, IsForwardChain, IsAgeChain};
-ghost use Rattle.cl_runs.specs.RunChains.{run_moments};
+ghost use Rattle.cl_runs.specs.{SystemOf.system_of, Run.IsInForm, Chains.{first_job, last_job, IsForwardChain, IsAgeChain}, RunChains.run_moments};
 ghost use Rattle.cl_check.specs.InOrder.{AreGroupsInOrder};
 ghost use Rattle.cl_chain.specs.JobChains.{option_of, IsChainOf};
 

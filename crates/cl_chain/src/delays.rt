@@ -4,23 +4,11 @@
 //! A delay is a reaction to such an event. It takes the number of its job, reads as the job
 //! arrives, and stands for the job before it; the job itself takes the next number.
 ghost use Rattle.std.specs.Prelude.{◌≡◌, ◌-◌, ◌<◌, ◌≤◌, length, slice_index, slice_set, IfOk};
-ghost use Rattle.cl_model.specs.Groups.{groups_at};
-ghost use Rattle.cl_model.specs.Validity.{IsValid};
-ghost use Rattle.cl_runs.specs.SystemOf.{system_of};
-ghost use Rattle.cl_runs.specs.Run.{IsInForm};
-ghost use Rattle.cl_runs.specs.Legal.{IsLegal};
-ghost use Rattle.cl_runs.specs.Chains.{first_job};
-ghost use Rattle.cl_runs.specs.Delays.{IsDelayChain};
-ghost use Rattle.cl_runs.specs.RunChains.{run_moments};
-ghost use Rattle.cl_runs.specs.Measured.{IsMeasured, IsMeasuredBy};
+ghost use Rattle.cl_model.specs.{Groups.groups_at, Validity.IsValid};
+ghost use Rattle.cl_runs.specs.{SystemOf.system_of, Run.IsInForm, Legal.IsLegal, Chains.first_job, Delays.IsDelayChain, RunChains.run_moments, Measured.{IsMeasured, IsMeasuredBy}};
 ghost use Rattle.cl_run_data.specs.Parts.{ShowsGroups};
-ghost use Rattle.cl_check.specs.Apart.{StandApart};
-ghost use Rattle.cl_check.specs.InOrder.{AreGroupsInOrder};
-ghost use Rattle.cl_chain.specs.GreatestDelays.{IsGreatestDelayBy};
-ghost use Rattle.cl_chain.specs.JobChains.{option_of, measured_of};
-ghost use Rattle.cl_chain.specs.Inner.ChainsOver.{IsForwardOver, AreForwardOrdered};
-ghost use Rattle.cl_chain.specs.Inner.GroupTables.{AreTables};
-ghost use Rattle.cl_chain.specs.Inner.Events.{AreEventTables, IsDelayOver};
+ghost use Rattle.cl_check.specs.{Apart.StandApart, InOrder.AreGroupsInOrder};
+ghost use Rattle.cl_chain.specs.{GreatestDelays.IsGreatestDelayBy, JobChains.{option_of, measured_of}, Inner.{ChainsOver.{IsForwardOver, AreForwardOrdered}, GroupTables.AreTables, Events.{AreEventTables, IsDelayOver}}};
 
 use crate::forward_jobs::forward_over;
 use crate::group_moments::{GroupMoments, arrivals_of, moments_of_groups_apart};

@@ -1,9 +1,7 @@
 //! Forward chains from a given job, over the moments of groups.
 ghost use Rattle.std.specs.Prelude.{◌≡◌, ℕ, ◌<◌, length, MatchOption, IfOk};
 ghost use Rattle.cl_runs.specs.Chains.{first_job};
-ghost use Rattle.cl_chain.specs.JobChains.{option_of, IsChainOf};
-ghost use Rattle.cl_chain.specs.Inner.Hops.{IsFirstReader, IsWrite};
-ghost use Rattle.cl_chain.specs.Inner.ChainsOver.{IsForwardOver};
+ghost use Rattle.cl_chain.specs.{JobChains.{option_of, IsChainOf}, Inner.{Hops.{IsFirstReader, IsWrite}, ChainsOver.IsForwardOver}};
 
 use crate::group_moments::GroupMoments;
 use crate::hops::{earliest_reader, moment_at, write_of};

@@ -1,15 +1,9 @@
 //! When the jobs of the groups of a chain read and write, by the access kind of their task. Times
 //! are in ticks.
 ghost use Rattle.std.specs.Prelude.{◌≡◌, ◌<◌, length, map, Some, IfOk};
-ghost use Rattle.cl_model.specs.ByNumber.{task_at};
-ghost use Rattle.cl_model.specs.Groups.{groups_at};
-ghost use Rattle.cl_model.specs.Validity.{IsValid};
-ghost use Rattle.cl_runs.specs.SystemOf.{system_of};
-ghost use Rattle.cl_runs.specs.Run.{IsInForm, jobs_of};
-ghost use Rattle.cl_runs.specs.Moments.{Reads, Writes};
-ghost use Rattle.cl_check.specs.Apart.{StandApart};
-ghost use Rattle.cl_check.specs.InOrder.{AreTimesPositive, AreGroupsInOrder};
-ghost use Rattle.cl_check.specs.JobMoments.{IsMomentOf, EndsAt};
+ghost use Rattle.cl_model.specs.{ByNumber.task_at, Groups.groups_at, Validity.IsValid};
+ghost use Rattle.cl_runs.specs.{SystemOf.system_of, Run.{IsInForm, jobs_of}, Moments.{Reads, Writes}};
+ghost use Rattle.cl_check.specs.{Apart.StandApart, InOrder.{AreTimesPositive, AreGroupsInOrder}, JobMoments.{IsMomentOf, EndsAt}};
 ghost use Rattle.cl_chain.specs.Inner.GroupTables.{AreMomentsAt, AreTables, IsTimedWrite, AreTimedWrites};
 
 use crate::hops::moment_at;

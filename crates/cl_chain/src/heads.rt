@@ -2,9 +2,7 @@
 //! in ticks.
 ghost use Rattle.std.specs.Prelude.{◌≡◌, ℕ, ◌+◌, ◌-◌, ◌<◌, length, IfOk};
 ghost use Rattle.cl_check.specs.JobMoments.{IsMomentOf};
-ghost use Rattle.cl_chain.specs.Inner.GroupTables.{AreMomentsAt, NeverFall, reads_in, writes_in};
-ghost use Rattle.cl_chain.specs.Inner.Hops.{GoesOnFrom, ArePassedFrom};
-ghost use Rattle.cl_chain.specs.Inner.ChainsOver.{IsHead};
+ghost use Rattle.cl_chain.specs.Inner.{GroupTables.{AreMomentsAt, NeverFall, reads_in, writes_in}, Hops.{GoesOnFrom, ArePassedFrom}, ChainsOver.IsHead};
 
 use crate::group_moments::GroupMoments;
 use crate::hops::{Writers, moment_at};

@@ -2,8 +2,7 @@
 //! ticks.
 ghost use Rattle.std.specs.Prelude.{◌≡◌, ℕ, Some, None, true, false, cond, is_some, ◌+◌, ◌^◌, ◌<◌, ◌≤◌, MatchOption};
 ghost use Rattle.cl_check.specs.JobMoments.{IsMomentOf};
-ghost use Rattle.cl_chain.specs.Inner.GroupTables.{moment_at, NeverFall};
-ghost use Rattle.cl_chain.specs.Inner.Hops.{IsFirstReader, IsLastWriter, IsWrite, ArePassed};
+ghost use Rattle.cl_chain.specs.Inner.{GroupTables.{moment_at, NeverFall}, Hops.{IsFirstReader, IsLastWriter, IsWrite, ArePassed}};
 
 /// Returns the moment of a job, if it has one.
 pub(crate) fn moment_at(moments: &[Option<u64>], job: usize) -> Option<u64>

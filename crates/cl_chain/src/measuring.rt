@@ -1,19 +1,9 @@
 //! Measuring the chains of a run. Moments are in ticks.
 ghost use Rattle.std.specs.Prelude.{◌≡◌, ◌-◌, ◌<◌, ◌∷◌, None, length, IfOk};
 ghost use Rattle.cl_model.specs.Groups.{groups_at};
-ghost use Rattle.cl_runs.specs.SystemOf.{system_of};
-ghost use Rattle.cl_runs.specs.Run.{IsInForm};
-ghost use Rattle.cl_runs.specs.Chains.{first_job, last_job};
-ghost use Rattle.cl_runs.specs.RunChains.{run_moments};
-ghost use Rattle.cl_runs.specs.Measured.{IsMeasured, IsMeasuredBy, IsCountOf};
-ghost use Rattle.cl_check.specs.Apart.{StandApart};
-ghost use Rattle.cl_check.specs.InOrder.{AreGroupsInOrder};
-ghost use Rattle.cl_check.specs.JobMoments.{IsMomentOf};
-ghost use Rattle.cl_chain.specs.JobChains.{option_of, measured_of};
-ghost use Rattle.cl_chain.specs.Inner.GroupTables.{AreMomentsAt};
-ghost use Rattle.cl_chain.specs.Inner.Hops.{IsOfNext, IsBeforeNext};
-ghost use Rattle.cl_chain.specs.Inner.ChainsOver.{IsHead, IsForwardOver, IsAgeOver, IsReducedOver, AreForwardOrdered, AreOrdered, IsMeasuredOver};
-ghost use Rattle.cl_chain.specs.Inner.Rows.{AreRowsOf};
+ghost use Rattle.cl_runs.specs.{SystemOf.system_of, Run.IsInForm, Chains.{first_job, last_job}, RunChains.run_moments, Measured.{IsMeasured, IsMeasuredBy, IsCountOf}};
+ghost use Rattle.cl_check.specs.{Apart.StandApart, InOrder.AreGroupsInOrder, JobMoments.IsMomentOf};
+ghost use Rattle.cl_chain.specs.{JobChains.{option_of, measured_of}, Inner.{GroupTables.AreMomentsAt, Hops.{IsOfNext, IsBeforeNext}, ChainsOver.{IsHead, IsForwardOver, IsAgeOver, IsReducedOver, AreForwardOrdered, AreOrdered, IsMeasuredOver}, Rows.AreRowsOf}};
 
 use crate::backward_jobs::{age_over, next_write, reduced_over};
 use crate::forward_jobs::forward_over;

@@ -2,9 +2,7 @@
 //! in ticks.
 ghost use Rattle.std.specs.Prelude.{ℕ, ◌+◌, ◌<◌, length, IfOk};
 ghost use Rattle.cl_check.specs.JobMoments.{IsMomentOf};
-ghost use Rattle.cl_chain.specs.Inner.GroupTables.{AreMomentsAt, NeverFall, writes_in};
-ghost use Rattle.cl_chain.specs.Inner.Hops.{IsWrite, GoesOnTo, AreBeforeWrites};
-ghost use Rattle.cl_chain.specs.Inner.ChainsOver.{IsTail};
+ghost use Rattle.cl_chain.specs.Inner.{GroupTables.{AreMomentsAt, NeverFall, writes_in}, Hops.{IsWrite, GoesOnTo, AreBeforeWrites}, ChainsOver.IsTail};
 
 use crate::group_moments::GroupMoments;
 use crate::hops::{earliest_reader, moment_at, write_of};

@@ -1,17 +1,11 @@
 -- Moments over a task's own list are those over its core's.
-use Rattle.std.proofs.Common.{◌≡◌, ℕ, zero, suc, ◌+◌, ◌-◌, ◌<◌, ◌≤◌, inl, inr, Option, Some, None, true, false, cond, eq-eqb, List, length, get_or, take, refl, sym, ap, ◌∙◌, arith}
+use Rattle.std.proofs.Common.{◌≡◌, ℕ, zero, suc, ◌+◌, ◌-◌, inl, inr, Option, Some, None, true, cond, eq-eqb, List, length, get_or, refl, sym, ap, ◌∙◌, arith}
 use Rattle.std.specs.Prelude.{count_by}
 use Rattle.std.proofs.Math.Numerals.{add-one}
 use Rattle.std.proofs.lemmas.Bool.{cases_lt, false≢true}
 use Rattle.std.proofs.lemmas.List.{get_or_past, take_all}
-use Rattle.cl_runs.specs.declared.job.Job.{Job}
-use Rattle.cl_runs.specs.Run.{is_task}
-use Rattle.cl_runs.specs.Work.{work_before, work_through}
-use Rattle.cl_check.specs.declared.job_ends.End.{End}
-use Rattle.cl_check.specs.declared.job_ends.End.TheVariants.{Start, Finish}
-use Rattle.cl_check.specs.Apart.{RunsAlike}
-use Rattle.cl_check.specs.JobMoments.{IsMomentOf}
-use Rattle.cl_check.specs.Inner.Walks.{executed_in, RunsAfter, EndsAfter, EndsIn, AreEndsIn}
+use Rattle.cl_runs.specs.{declared.job.Job.Job, Run.is_task, Work.{work_before, work_through}}
+use Rattle.cl_check.specs.{declared.job_ends.End.{End, TheVariants.{Start, Finish}}, Apart.RunsAlike, JobMoments.IsMomentOf, Inner.Walks.{executed_in, RunsAfter, EndsAfter, EndsIn, AreEndsIn}}
 use Rattle.cl_check.proofs.WalkFacts.{is_that_task, one_more}
 
 -- a further tick counts where the task runs in it

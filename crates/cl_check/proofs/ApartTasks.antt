@@ -1,15 +1,11 @@
 -- Putting the tasks of a run apart, stretch by stretch and core by core.
-use Rattle.std.proofs.Common.{◌≡◌, ◌≢◌, ℕ, suc, ◌+◌, ◌-◌, ◌<◌, ◌≤◌, inl, inr, Option, Some, None, Bool, true, false, List, [], ◌++◌, replicate, length, get_or, set, take, refl, sym, ap, ◌∙◌, subst, arith, length-append}
+use Rattle.std.proofs.Common.{◌≡◌, ◌≢◌, ℕ, ◌+◌, ◌-◌, ◌<◌, ◌≤◌, inl, inr, Option, Some, None, false, List, [], ◌++◌, replicate, length, get_or, set, take, refl, sym, ap, ◌∙◌, subst, arith, length-append}
 use Rattle.std.specs.Prelude.{◌==◌}
 use Rattle.std.proofs.lemmas.Bool.{cases_lt, cases_eq, eqb-true, false_from_ne_true}
 use Rattle.std.proofs.lemmas.List.{get_or-set_same, get_or-set_other, set-set, length-set, length-replicate, length-take-le, get_or_append_left, get_or-append_right, get_or-replicate, get_or-take, get_or_past, take_all}
-use Rattle.cl_runs.specs.declared.job.JobTable.{JobTable}
-use Rattle.cl_runs.specs.TaskTiming.{System, timing_at, IsSound}
-use Rattle.cl_runs.specs.Run.{Run, core_entries, entry_at, is_task, IsEntryOf, IsInForm}
+use Rattle.cl_runs.specs.{declared.job.JobTable.JobTable, TaskTiming.{System, timing_at, IsSound}, Run.{Run, core_entries, entry_at, is_task, IsEntryOf, IsInForm}}
 use Rattle.cl_run_data.specs.declared.stretches.Stretch.{Stretch}
-use Rattle.cl_check.specs.Apart.{RunsAlike, StandApart}
-use Rattle.cl_check.specs.Inner.Following.{Lasts}
-use Rattle.cl_check.specs.Inner.PutApart.{with_ticks, HasList, HasTicks, MayGetTicks, TakesTicks, AreApartUpTo}
+use Rattle.cl_check.specs.{Apart.{RunsAlike, StandApart}, Inner.{Following.Lasts, PutApart.{with_ticks, HasList, HasTicks, TakesTicks, AreApartUpTo}}}
 
 -- ---- runs whose list of one task is replaced
 

@@ -2,16 +2,9 @@
 use Rattle.std.proofs.Common.{◌≡◌, ◌≢◌, ℕ, ◌+◌, ◌<◌, ◌≤◌, ◌⊎◌, inl, inr, Some, [], sym, ap, ◌∙◌, subst, arith}
 use Rattle.std.proofs.lemmas.Bool.{cases_eq}
 use Rattle.std.specs.Prelude.{Result, Ok, Err, IfOk, IfErr}
-use Rattle.cl_runs.specs.Continuation.{HasContinuation}
-use Rattle.cl_runs.specs.declared.job.JobTable.{JobTable}
-use Rattle.cl_runs.specs.TaskTiming.{System, IsSound}
+use Rattle.cl_runs.specs.{Continuation.HasContinuation, declared.job.JobTable.JobTable, TaskTiming.{System, IsSound}, Run.{Run, IsInForm}, Legal.IsLegal}
 use Rattle.cl_runs.proofs.Continuing.{has_continuation}
-use Rattle.cl_runs.specs.Run.{Run, IsInForm}
-use Rattle.cl_runs.specs.Legal.{IsLegal}
-use Rattle.cl_check.specs.declared.run_fault.RunFault.{RunFault}
-use Rattle.cl_check.specs.declared.run_fault.RunFault.TheVariants.{Illegal, NoMemory}
-use Rattle.cl_check.specs.Legality.{first_fault, table_faults, IsScheduleKept, BreaksCore, BreaksSchedule, IsFirstBroken, IsRunFaultOf}
-use Rattle.cl_check.specs.Inner.Following.{ChecksRun}
+use Rattle.cl_check.specs.{declared.run_fault.RunFault.{RunFault, TheVariants.{Illegal, NoMemory}}, Legality.{first_fault, table_faults, IsScheduleKept, BreaksCore, BreaksSchedule, IsFirstBroken, IsRunFaultOf}, Inner.Following.ChecksRun}
 use Rattle.cl_check.proofs.LawfulFaults.{faultless_lawful, lawful_faultless}
 
 -- the tasks of one more core

@@ -4,22 +4,13 @@ use Rattle.std.specs.Prelude.{not}
 use Rattle.std.specs.Option.{option_eq}
 use Rattle.std.proofs.lemmas.Bool.{cases_lt}
 use Rattle.std.proofs.lemmas.List.{same_lists, length-take-le, length-replicate, get_or_append_left, get_or-append_right, get_or-replicate, get_or-take, get_or_default}
-use Rattle.cl_runs.specs.TaskTiming.{System, IsSound}
-use Rattle.cl_runs.specs.Run.{Run, core_entries, entry_at, executed}
-use Rattle.cl_runs.specs.Legal.{IsScheduled}
+use Rattle.cl_runs.specs.{TaskTiming.{System, IsSound}, Run.{Run, core_entries, entry_at, executed}, Legal.IsScheduled}
 use Rattle.cl_runs.proofs.Scheduling.{scheduled_alike, scheduled_once}
-use Rattle.cl_run_data.specs.declared.stretches.Stretch.{Stretch}
-use Rattle.cl_run_data.specs.Stretches.{entries_from, AreStretchesOf, LastsFrom}
-use Rattle.cl_run_data.specs.Inner.StretchPlaces.{end_from}
-use Rattle.cl_run_data.proofs.StretchFacts.{length-entries, end_at_last, ends_rise, who_same, who_other}
-use Rattle.cl_run_data.proofs.StretchEntries.{entry_of_tick, lasts_some}
-use Rattle.cl_sched.specs.declared.core_progress.CoreProgress.{CoreProgress}
-use Rattle.cl_sched.specs.CoreProgress.{ticks_of, IsScheduledUntil, IsReached}
+use Rattle.cl_run_data.specs.{declared.stretches.Stretch.Stretch, Stretches.{entries_from, AreStretchesOf, LastsFrom}, Inner.StretchPlaces.end_from}
+use Rattle.cl_run_data.proofs.{StretchFacts.{length-entries, end_at_last, ends_rise, who_same, who_other}, StretchEntries.{entry_of_tick, lasts_some}}
+use Rattle.cl_sched.specs.{declared.core_progress.CoreProgress.CoreProgress, CoreProgress.{ticks_of, IsScheduledUntil, IsReached}}
 use Rattle.cl_sched.proofs.FullCores.{alike}
-use Rattle.cl_check.specs.declared.run_fault.Rule.TheVariants.{Schedule}
-use Rattle.cl_check.specs.declared.run_fault.RunFault.TheVariants.{Illegal}
-use Rattle.cl_check.specs.Legality.{IsScheduleKept, BreaksCore}
-use Rattle.cl_check.specs.Inner.Following.{IsFollowed, Lasts}
+use Rattle.cl_check.specs.{declared.run_fault.{Rule.TheVariants.Schedule, RunFault.TheVariants.Illegal}, Legality.{IsScheduleKept, BreaksCore}, Inner.Following.{IsFollowed, Lasts}}
 
 -- first entries and further equal ones are the first entries up to there
 pub taken : (entries : List (Option ℕ)) (a t : ℕ) (who : Option ℕ) → a ≤ t → t ≤ length entries

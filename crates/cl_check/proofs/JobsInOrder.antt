@@ -2,16 +2,9 @@
 use Rattle.std.proofs.Common.{◌≡◌, ℕ, ◌<◌, ◌≤◌, List, length, refl, sym, subst, arith}
 use Rattle.std.specs.Prelude.{slice_index, All}
 use Rattle.std.proofs.lemmas.List.{get_or_default}
-use Rattle.cl_model.specs.declared.group.Group.{Group}
-use Rattle.cl_model.specs.Groups.{no_group, group_at}
-use Rattle.cl_runs.specs.declared.job.Job.{Job}
-use Rattle.cl_runs.specs.Table.{no_job, job_at}
-use Rattle.cl_runs.specs.TaskTiming.{System, timing_at, IsSound}
-use Rattle.cl_runs.specs.Run.{Run, jobs_of, IsInForm}
-use Rattle.cl_runs.specs.Legal.{IsLegal}
-use Rattle.cl_runs.specs.MomentOrder.{AreGroupsOf}
-use Rattle.cl_runs.proofs.LegalFacts.{job_places, time_positive}
-use Rattle.cl_runs.proofs.RunArrivals.{arrivals_rise}
+use Rattle.cl_model.specs.{declared.group.Group.Group, Groups.{no_group, group_at}}
+use Rattle.cl_runs.specs.{declared.job.Job.Job, Table.{no_job, job_at}, TaskTiming.{System, timing_at, IsSound}, Run.{Run, jobs_of, IsInForm}, Legal.IsLegal, MomentOrder.AreGroupsOf}
+use Rattle.cl_runs.proofs.{LegalFacts.{job_places, time_positive}, RunArrivals.arrivals_rise}
 use Rattle.cl_run_data.specs.Parts.{ShowsTask, ShowsGroups}
 use Rattle.cl_run_data.proofs.ShownTasks.{groups_show_task}
 use Rattle.cl_check.specs.InOrder.{AreTimesPositive, AreJobsInOrder, IsRunInOrder, AreGroupsInOrder}

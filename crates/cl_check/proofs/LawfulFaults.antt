@@ -2,17 +2,10 @@
 use Rattle.std.proofs.Common.{◌≡◌, ℕ, zero, suc, ◌+◌, ◌<◌, ◌≤◌, inl, inr, Bool, true, false, ◌&&◌, nat_le, nat_lt, List, [], ◌∷◌, ◌++◌, length, get_or, refl, sym, ap, ◌∙◌, arith}
 use Rattle.std.specs.List.{AllZip, range_with_len, flat_map}
 use Rattle.std.proofs.lemmas.Bool.{cases_eq, leb-true, ltb-true, le-leb, lt-ltb}
-use Rattle.cl_model.specs.declared.stimulus.StimulusKind.{StimulusKind}
-use Rattle.cl_model.specs.Timing.{greatest_jitter}
+use Rattle.cl_model.specs.{declared.stimulus.StimulusKind.StimulusKind, Timing.greatest_jitter}
 use Rattle.cl_model.proofs.ListFacts.{both_true, both_pass}
-use Rattle.cl_runs.specs.Arrivals.{IsArrival, AreArrivalsFrom}
-use Rattle.cl_runs.specs.declared.job.Job.{Job}
-use Rattle.cl_runs.specs.declared.job.JobTable.{JobTable}
-use Rattle.cl_runs.specs.Pattern.{least_gap, greatest_gap}
-use Rattle.cl_runs.specs.Table.{LiesIn, table_jobs, IsLawful}
-use Rattle.cl_runs.specs.TaskTiming.{TimeRange, System, timing_at}
-use Rattle.cl_check.specs.declared.run_fault.RunFault.{RunFault}
-use Rattle.cl_check.specs.Legality.{fault_unless, are_in_range, arrival_faults, release_faults, time_faults, job_faults, faults_from, faults_of_task, table_faults}
+use Rattle.cl_runs.specs.{Arrivals.{IsArrival, AreArrivalsFrom}, declared.job.{Job.Job, JobTable.JobTable}, Pattern.{least_gap, greatest_gap}, Table.{LiesIn, table_jobs, IsLawful}, TaskTiming.{TimeRange, System, timing_at}}
+use Rattle.cl_check.specs.{declared.run_fault.RunFault.RunFault, Legality.{fault_unless, are_in_range, arrival_faults, release_faults, time_faults, job_faults, faults_from, faults_of_task, table_faults}}
 
 -- ---- tests
 

@@ -1,15 +1,9 @@
 -- The tasks of a valid model and of the groups of its chains are in order, in a run that is in order, is legal or shows them.
 use Rattle.std.proofs.Common.{ℕ, ◌<◌, length, arith}
 use Rattle.std.proofs.lemmas.List.Elements.{All-weaker}
-use Rattle.cl_model.specs.declared.model.SystemModel.{SystemModel}
-use Rattle.cl_model.specs.declared.group.Group.{Group}
-use Rattle.cl_model.specs.Groups.{IsGroupOf, groups_at}
-use Rattle.cl_model.specs.Validity.{IsValid}
+use Rattle.cl_model.specs.{declared.{model.SystemModel.SystemModel, group.Group.Group}, Groups.{IsGroupOf, groups_at}, Validity.IsValid}
 use Rattle.cl_model.proofs.GroupFacts.{groups_at_are}
-use Rattle.cl_runs.specs.SystemOf.{system_of}
-use Rattle.cl_runs.specs.Run.{Run, jobs_of}
-use Rattle.cl_runs.specs.Legal.{IsLegal}
-use Rattle.cl_runs.specs.MomentOrder.{AreGroupsOf}
+use Rattle.cl_runs.specs.{SystemOf.system_of, Run.{Run, jobs_of}, Legal.IsLegal, MomentOrder.AreGroupsOf}
 use Rattle.cl_runs.proofs.ModelSystem.{count_is, system_sound}
 use Rattle.cl_run_data.specs.Parts.{ShowsTask, ShowsGroups}
 use Rattle.cl_check.specs.InOrder.{AreJobsInOrder, IsRunInOrder, AreGroupsInOrder}

@@ -4,14 +4,8 @@ use Rattle.std.specs.Prelude.{sum, sum_by, slice_index}
 use Rattle.std.proofs.lemmas.Bool.{cases_lt}
 use Rattle.std.proofs.lemmas.List.{get_or_append_left, get_or_push}
 use Rattle.std.proofs.lemmas.List.Sums.{sum_by_more, sum_by_more_le}
-use Rattle.cl_runs.specs.declared.job.Job.{Job}
-use Rattle.cl_runs.specs.Table.{no_job, job_at}
-use Rattle.cl_runs.specs.Work.{work_before, work_through}
-use Rattle.cl_check.specs.declared.job_moments.Moment.{Moment}
-use Rattle.cl_check.specs.declared.job_ends.End.{End}
-use Rattle.cl_check.specs.declared.job_ends.End.TheVariants.{Start, Finish}
-use Rattle.cl_check.specs.JobMoments.{IsMomentOf, no_moment}
-use Rattle.cl_check.specs.Inner.Walks.{RunsAfter, EndsAfter, AreMomentsIn, IsEndAfter, EndsIn, AreEndsIn}
+use Rattle.cl_runs.specs.{declared.job.Job.Job, Table.{no_job, job_at}, Work.{work_before, work_through}}
+use Rattle.cl_check.specs.{declared.{job_moments.Moment.Moment, job_ends.End.{End, TheVariants.{Start, Finish}}}, JobMoments.{IsMomentOf, no_moment}, Inner.Walks.{RunsAfter, EndsAfter, AreMomentsIn, IsEndAfter, EndsIn, AreEndsIn}}
 use Rattle.cl_check.proofs.WalkFacts.{executed_within}
 
 -- ---- work past 64 bits is never reached

@@ -3,31 +3,13 @@ use Rattle.std.proofs.Common.{◌≡◌, ℕ, suc, ◌-◌, ◌<◌, ◌≤◌, 
 use Rattle.std.specs.Prelude.{slice_index, All}
 use Rattle.std.proofs.lemmas.Bool.{cases_lt}
 use Rattle.std.proofs.lemmas.List.{get_or_default}
-use Rattle.cl_model.specs.declared.model.SystemModel.{SystemModel}
-use Rattle.cl_model.specs.ByNumber.{core_of, task_at}
-use Rattle.cl_model.specs.Validity.{IsValid}
-use Rattle.cl_runs.specs.declared.job.Job.{Job}
-use Rattle.cl_runs.specs.Table.{no_job, job_at}
-use Rattle.cl_runs.specs.TaskTiming.{System, Timing, timing_at, IsSound}
-use Rattle.cl_runs.specs.SystemOf.{system_of}
-use Rattle.cl_runs.specs.Run.{Run, jobs_of, core_entries, executed, IsInForm}
-use Rattle.cl_runs.specs.Work.{work_before, work_through}
-use Rattle.cl_runs.specs.Moments.{Starts, Finishes}
-use Rattle.cl_runs.proofs.Climbing.{climb_grows}
-use Rattle.cl_runs.proofs.Executed.{executed_zero, executed_climbs, executed_grew}
-use Rattle.cl_runs.proofs.ModelSystem.{timing_is, count_is, range_count_is, system_sound}
-use Rattle.cl_run_data.specs.declared.stretches.Stretch.{Stretch}
-use Rattle.cl_run_data.specs.Stretches.{entries_from, AreStretchesOf}
-use Rattle.cl_check.specs.declared.job_moments.Moment.{Moment}
-use Rattle.cl_check.specs.declared.job_ends.End.{End}
-use Rattle.cl_check.specs.declared.job_ends.End.TheVariants.{Start, Finish}
-use Rattle.cl_check.specs.InOrder.{AreTimesPositive}
-use Rattle.cl_check.specs.JobMoments.{IsMomentOf, AreMoments, EndsAt, AreEndsOfJobs}
-use Rattle.cl_check.specs.Inner.Walks.{executed_in, RunsAfter, EndsAfter, AreMomentsIn, EndsIn, AreEndsIn}
+use Rattle.cl_model.specs.{declared.model.SystemModel.SystemModel, ByNumber.{core_of, task_at}, Validity.IsValid}
+use Rattle.cl_runs.specs.{declared.job.Job.Job, Table.{no_job, job_at}, TaskTiming.{System, Timing, timing_at, IsSound}, SystemOf.system_of, Run.{Run, jobs_of, core_entries, executed, IsInForm}, Work.{work_before, work_through}, Moments.{Starts, Finishes}}
+use Rattle.cl_runs.proofs.{Climbing.climb_grows, Executed.{executed_zero, executed_climbs, executed_grew}, ModelSystem.{timing_is, count_is, range_count_is, system_sound}}
+use Rattle.cl_run_data.specs.{declared.stretches.Stretch.Stretch, Stretches.{entries_from, AreStretchesOf}}
+use Rattle.cl_check.specs.{declared.{job_moments.Moment.Moment, job_ends.End.{End, TheVariants.{Start, Finish}}}, InOrder.AreTimesPositive, JobMoments.{IsMomentOf, AreMoments, EndsAt, AreEndsOfJobs}, Inner.Walks.{executed_in, RunsAfter, EndsAfter, AreMomentsIn, EndsIn, AreEndsIn}}
 use Rattle.cl_check.specs.Apart.{StandApart}
-use Rattle.cl_check.proofs.JobsInOrder.{job_time}
-use Rattle.cl_check.proofs.WalkFacts.{executed_more, executed_grows}
-use Rattle.cl_check.proofs.ApartMoments.{ends_alike_in}
+use Rattle.cl_check.proofs.{JobsInOrder.job_time, WalkFacts.{executed_more, executed_grows}, ApartMoments.ends_alike_in}
 
 -- ---- a task of a run, and the entries of its core
 
@@ -161,10 +143,6 @@ module _ (model : SystemModel) (valid : IsValid model) (run : Run) (in_form : Is
     module _ (ss : List Stretch) (stretches : AreStretchesOf (core_entries run core) ss) where
       entries_are : entries_from 0 ss ≡ core_entries run (timing_at (system_of model) task).core
       entries_are = stretches.entries_are ∙ ap (core_entries run) on_core
-
-      -- the core has as many entries as the run has ticks
-      pub entries_count : length (entries_from 0 ss) ≡ run.table.ticks
-      entries_count = as_many (system_of model) sound run in_form task is_task times _ entries_are
 
       found_are : (moments : List Moment)
           → (length moments ≡ length (jobs_of run task)) × AreMomentsIn (entries_from 0 ss) (jobs_of run task) task place moments

@@ -1,17 +1,12 @@
 -- The faults of a table, found from the first job on.
-use Rattle.std.proofs.Common.{◌≡◌, ◌≢◌, ℕ, suc, ◌+◌, ◌-◌, ◌<◌, ◌≤◌, Bool, true, false, ◌&&◌, nat_le, Some, List, [], ◌∷◌, ◌++◌, length, get_or, drop, map, refl, sym, ap, ◌∙◌, arith}
+use Rattle.std.proofs.Common.{◌≡◌, ◌≢◌, ℕ, suc, ◌+◌, ◌-◌, ◌<◌, ◌≤◌, Bool, true, false, ◌&&◌, nat_le, List, [], ◌∷◌, ◌++◌, length, get_or, drop, map, refl, sym, ap, ◌∙◌, arith}
 use Rattle.std.proofs.lemmas.Bool.{le-leb, lt-leb}
-use Rattle.std.proofs.lemmas.List.{get_or-map, length-map, length-drop}
+use Rattle.std.proofs.lemmas.List.{get_or-map, length-map}
 use Rattle.std.proofs.Math.Seq.{drop-cons}
 use Rattle.std.specs.List.{range_with_len, flat_map}
-use Rattle.cl_model.specs.declared.stimulus.StimulusKind.{StimulusKind}
-use Rattle.cl_model.specs.declared.task.RunnableDef.{RunnableDef}
-use Rattle.cl_runs.specs.declared.job.Job.{Job}
-use Rattle.cl_runs.specs.Pattern.{least_gap, greatest_gap}
-use Rattle.cl_runs.specs.SystemOf.{range_of}
-use Rattle.cl_runs.specs.TaskTiming.{TimeRange, no_range}
-use Rattle.cl_check.specs.declared.run_fault.RunFault.{RunFault}
-use Rattle.cl_check.specs.Legality.{are_in_range, first_fault, job_faults, faults_from}
+use Rattle.cl_model.specs.declared.{stimulus.StimulusKind.StimulusKind, task.RunnableDef.RunnableDef}
+use Rattle.cl_runs.specs.{declared.job.Job.Job, SystemOf.range_of, TaskTiming.{TimeRange, no_range}}
+use Rattle.cl_check.specs.{declared.run_fault.RunFault.RunFault, Legality.{are_in_range, faults_from}}
 
 -- ---- the execution times of a job
 
@@ -27,11 +22,6 @@ lengths_differ (range ∷ ranges) [] differ = refl
 lengths_differ (range ∷ ranges) (time ∷ times) differ =
     not_both (nat_le range.least time && nat_le time range.greatest)
     ∙ ap (λ b. (nat_le range.least time && nat_le time range.greatest) && b) (lengths_differ ranges times (λ same. differ (ap suc same)))
-
-pub none_left : (ranges : List TimeRange) (times : List ℕ) → length ranges ≡ 0 → length times ≡ 0 → true ≡ are_in_range ranges times
-none_left [] [] no_range no_time = refl
-none_left [] (time ∷ times) no_range no_time = absurd (omega arith)
-none_left (range ∷ ranges) times no_range no_time = absurd (omega arith)
 
 module _ (runnables : List RunnableDef) (times : List ℕ) (i : ℕ) (runnable : RunnableDef) (is : runnable ≡ get_or runnables i runnable)
     (there : i < length runnables) (timed : i < length times) where
@@ -68,10 +58,6 @@ module _ (runnables : List RunnableDef) (times : List ℕ) (i : ℕ) (runnable :
 
 -- ---- one list after another
 
-pub first_of_both : (one other : List RunFault) (fault : RunFault) → first_fault one ≡ Some fault → first_fault (one ++ other) ≡ Some fault
-first_of_both [] other fault is = cc
-first_of_both (head ∷ one) other fault is = is
-
 pub none_of_first : (one other : List RunFault) → one ≡ [] → one ++ other ≡ other
 none_of_first one other none = ap (λ faults. faults ++ other) none
 
@@ -82,29 +68,6 @@ module _ (pattern : StimulusKind) (ranges : List TimeRange) (ticks task k low hi
   abbrev faults : List RunFault
   faults = faults_from pattern ranges ticks task k low high (drop k jobs)
 
-  job_first : faults ≡ job_faults pattern ranges ticks task low high job
-      ++ faults_from pattern ranges ticks task (suc k) (job.arrival + least_gap pattern k) (job.arrival + greatest_gap pattern k) (drop (suc k) jobs)
-  job_first = ap (faults_from pattern ranges ticks task k low high) (drop-cons jobs k job there ∙ ap (λ j. j ∷ drop (suc k) jobs) (sym is))
-
-  pub faulty_job : (fault : RunFault) → first_fault (job_faults pattern ranges ticks task low high job) ≡ Some fault → first_fault faults ≡ Some fault
-  faulty_job fault found = ap first_fault job_first ∙ first_of_both _ _ fault found
-
-  pub fine_job : (n next_low next_high : ℕ) → n ≡ suc k → next_low ≡ job.arrival + least_gap pattern k → next_high ≡ job.arrival + greatest_gap pattern k
-      → job_faults pattern ranges ticks task low high job ≡ []
-      → faults ≡ faults_from pattern ranges ticks task n next_low next_high (drop n jobs)
-  fine_job n next_low next_high n_is low_is high_is none = job_first ∙ none_of_first _ _ none
-      ∙ ap (λ m. faults_from pattern ranges ticks task m (job.arrival + least_gap pattern k) (job.arrival + greatest_gap pattern k) (drop m jobs)) (sym n_is)
-      ∙ ap (λ l. faults_from pattern ranges ticks task n l (job.arrival + greatest_gap pattern k) (drop n jobs)) (sym low_is)
-      ∙ ap (λ h. faults_from pattern ranges ticks task n next_low h (drop n jobs)) (sym high_is)
-
--- after the last job
-pub no_job_left : (jobs : List Job) (k : ℕ) → length jobs ≤ k → drop k jobs ≡ []
-no_job_left jobs k h = empty (drop k jobs) (omega (arith, length-drop k jobs))
-  where
-    empty : (xs : List Job) → length xs ≡ 0 → xs ≡ []
-    empty [] none = refl
-    empty (x ∷ xs) none = absurd (omega arith)
-
 -- ---- the tasks of a table
 
 module _ (faults_of : ℕ → List RunFault) where
@@ -113,15 +76,6 @@ module _ (faults_of : ℕ → List RunFault) where
       let more : n - a ≡ suc (n - (a + 1)) = omega (arith, h) in
       ap (λ m. flat_map faults_of (range_with_len a m)) more
 
-  pub faulty_task : (a n : ℕ) (fault : RunFault) → a < n → first_fault (faults_of a) ≡ Some fault
-      → first_fault (flat_map faults_of (range_with_len a (n - a))) ≡ Some fault
-  faulty_task a n fault h found = ap first_fault (one_task a n h) ∙ first_of_both _ _ fault found
-
   pub fine_task : (a n : ℕ) → a < n → faults_of a ≡ []
       → flat_map faults_of (range_with_len a (n - a)) ≡ flat_map faults_of (range_with_len (a + 1) (n - (a + 1)))
   fine_task a n h none = one_task a n h ∙ none_of_first _ _ none
-
-  pub no_task_left : (a n : ℕ) → n ≤ a → flat_map faults_of (range_with_len a (n - a)) ≡ []
-  no_task_left a n h =
-      let none : n - a ≡ 0 = omega (arith, h) in
-      ap (λ m. flat_map faults_of (range_with_len a m)) none

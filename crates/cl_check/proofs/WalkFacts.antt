@@ -6,13 +6,9 @@ use Rattle.std.proofs.lemmas.List.{get_or_default, length-take, take_all}
 use Rattle.std.proofs.lemmas.List.Sums.{count_by_more_yes, count_by_more_no, count_by-le-length}
 use Rattle.cl_runs.specs.Run.{is_task}
 use Rattle.cl_runs.proofs.Work.{sum_take_mono}
-use Rattle.cl_run_data.specs.declared.stretches.Stretch.{Stretch}
-use Rattle.cl_run_data.specs.Stretches.{entries_from, AreLongest, AreStretchesOf, LastsFrom}
-use Rattle.cl_run_data.specs.Inner.StretchPlaces.{end_from}
-use Rattle.cl_run_data.proofs.StretchFacts.{length-entries, end_at_last, ends_rise}
-use Rattle.cl_run_data.proofs.StretchEntries.{entry_of_tick, lasts_some, last_ends}
-use Rattle.cl_check.specs.declared.walk.Walk.{Walk}
-use Rattle.cl_check.specs.Inner.Walks.{executed_in, RunsAfter, StandsIn}
+use Rattle.cl_run_data.specs.{declared.stretches.Stretch.Stretch, Stretches.{entries_from, AreLongest, AreStretchesOf, LastsFrom}, Inner.StretchPlaces.end_from}
+use Rattle.cl_run_data.proofs.{StretchFacts.{length-entries, end_at_last, ends_rise}, StretchEntries.{entry_of_tick, lasts_some, last_ends}}
+use Rattle.cl_check.specs.{declared.walk.Walk.Walk, Inner.Walks.{executed_in, RunsAfter, StandsIn}}
 
 -- an entry that passes the test is the task
 pub is_that_task : (task : ℕ) (who : Option ℕ) → is_task task who ≡ true → who ≡ Some task

@@ -1,7 +1,6 @@
 -- A run whose tasks stand apart: each has a list of its own.
 use Rattle.std.specs.Prelude.{◌≡◌, ℕ, Option, None, ◌<◌, ◌≤◌, List, length, slice_index_or}
-use Rattle.cl_runs.specs.TaskTiming.{System, timing_at}
-use Rattle.cl_runs.specs.Run.{Run, core_entries, is_task}
+use Rattle.cl_runs.specs.{TaskTiming.{System, timing_at}, Run.{Run, core_entries, is_task}}
 
 -- a task runs in the same ticks of two lists of entries
 abbrev pub RunsAlike : (task : ℕ) (one other : List (Option ℕ)) → Type 0

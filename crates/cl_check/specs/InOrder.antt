@@ -1,11 +1,7 @@
 -- Runs in order: each job takes time, and the jobs of a task arrive one after the other. Such a run need not be legal.
 use Rattle.std.specs.Prelude.{ℕ, ◌<◌, ◌≤◌, List, length, All}
-use Rattle.cl_model.specs.declared.group.Group.{Group}
-use Rattle.cl_model.specs.Groups.{group_at}
-use Rattle.cl_runs.specs.declared.job.Job.{Job}
-use Rattle.cl_runs.specs.Table.{job_at}
-use Rattle.cl_runs.specs.TaskTiming.{System}
-use Rattle.cl_runs.specs.Run.{Run, jobs_of}
+use Rattle.cl_model.specs.{declared.group.Group.Group, Groups.group_at}
+use Rattle.cl_runs.specs.{declared.job.Job.Job, Table.job_at, TaskTiming.System, Run.{Run, jobs_of}}
 
 -- each execution time of some jobs is 1 tick or more
 abbrev pub AreTimesPositive : List Job → Type 0

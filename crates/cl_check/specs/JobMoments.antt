@@ -1,11 +1,7 @@
 -- When the jobs of a task start and finish, as a list.
 use Rattle.std.specs.Prelude.{◌≡◌, ℕ, Option, Some, None, ◌<◌, List, length, slice_index_or}
-use Rattle.cl_runs.specs.TaskTiming.{System}
-use Rattle.cl_runs.specs.Run.{Run, jobs_of}
-use Rattle.cl_runs.specs.Moments.{Starts, Finishes}
-use Rattle.cl_check.specs.declared.job_moments.Moment.{Moment}
-use Rattle.cl_check.specs.declared.job_ends.End.{End}
-use Rattle.cl_check.specs.declared.job_ends.End.TheVariants.{Start, Finish}
+use Rattle.cl_runs.specs.{TaskTiming.System, Run.{Run, jobs_of}, Moments.{Starts, Finishes}}
+use Rattle.cl_check.specs.declared.{job_moments.Moment.Moment, job_ends.End.{End, TheVariants.{Start, Finish}}}
 
 -- the moment at which something is so, and none where there is no such moment
 abbrev pub IsMomentOf : (IsAt : ℕ → Type 0) → Option ℕ → Type 0

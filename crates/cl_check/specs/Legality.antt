@@ -2,18 +2,9 @@
 -- are in ticks.
 use Rattle.std.specs.Prelude.{◌≡◌, ℕ, suc, ◌+◌, ◌<◌, ◌⊎◌, Bool, true, false, ◌&&◌, nat_le, nat_lt, cond, List, [], ◌∷◌, ◌++◌, length, Option, Some, None}
 use Rattle.std.specs.List.{range_with_len, flat_map}
-use Rattle.cl_model.specs.declared.stimulus.StimulusKind.{StimulusKind}
-use Rattle.cl_model.specs.Timing.{greatest_jitter}
-use Rattle.cl_runs.specs.declared.job.Job.{Job}
-use Rattle.cl_runs.specs.declared.job.JobTable.{JobTable}
-use Rattle.cl_runs.specs.Pattern.{first_least, first_greatest, least_gap, greatest_gap}
-use Rattle.cl_runs.specs.TaskTiming.{TimeRange, System, timing_at}
-use Rattle.cl_runs.specs.Table.{table_jobs}
-use Rattle.cl_runs.specs.Run.{Run, entry_at, executed}
-use Rattle.cl_runs.specs.Legal.{IsScheduled}
-use Rattle.cl_check.specs.declared.run_fault.Rule.TheVariants.{Arrival, Release, Time, Missing, Schedule}
-use Rattle.cl_check.specs.declared.run_fault.RunFault.{RunFault}
-use Rattle.cl_check.specs.declared.run_fault.RunFault.TheVariants.{Illegal, NoMemory}
+use Rattle.cl_model.specs.{declared.stimulus.StimulusKind.StimulusKind, Timing.greatest_jitter}
+use Rattle.cl_runs.specs.{declared.job.{Job.Job, JobTable.JobTable}, Pattern.{first_least, first_greatest, least_gap, greatest_gap}, TaskTiming.{TimeRange, System, timing_at}, Table.table_jobs, Run.{Run, entry_at, executed}, Legal.IsScheduled}
+use Rattle.cl_check.specs.declared.run_fault.{Rule.TheVariants.{Arrival, Release, Time, Missing, Schedule}, RunFault.{RunFault, TheVariants.{Illegal, NoMemory}}}
 
 -- a fault, unless the test passes
 abbrev pub fault_unless : Bool → RunFault → List RunFault

@@ -1,9 +1,7 @@
 //! The ticks of each task of a run, in a list of its own. Times are in ticks.
 ghost use Rattle.std.specs.Prelude.{◌+◌, ◌<◌, ◌≤◌, length, OnOk, IfOk};
-ghost use Rattle.cl_runs.specs.Run.{core_entries, IsInForm};
-ghost use Rattle.cl_runs.specs.SystemOf.{system_of};
-ghost use Rattle.cl_check.specs.Apart.{StandApart};
-ghost use Rattle.cl_check.specs.Inner.PutApart.{with_ticks, HasList, HasTicks, TakesTicks, AreApartUpTo};
+ghost use Rattle.cl_runs.specs.{Run.{core_entries, IsInForm}, SystemOf.system_of};
+ghost use Rattle.cl_check.specs.{Apart.StandApart, Inner.PutApart.{with_ticks, HasList, HasTicks, TakesTicks, AreApartUpTo}};
 
 use cl_model::{List, ValidModel};
 use cl_run_data::RunData;

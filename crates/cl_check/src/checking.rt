@@ -1,13 +1,9 @@
 //! Checking whether a run is legal. Times are in ticks.
 ghost use Rattle.std.specs.Prelude.{◌≢◌, IfOk, IfErr};
 ghost use Rattle.cl_model.specs.Validity.{IsValid};
-ghost use Rattle.cl_runs.specs.Run.{IsInForm};
-ghost use Rattle.cl_runs.specs.SystemOf.{system_of};
-ghost use Rattle.cl_runs.specs.Table.{IsLawful};
-ghost use Rattle.cl_runs.specs.Legal.{IsLegal};
+ghost use Rattle.cl_runs.specs.{Run.IsInForm, SystemOf.system_of, Table.IsLawful, Legal.IsLegal};
 ghost use Rattle.cl_sched.specs.Continuing.{HasContinuations};
-ghost use Rattle.cl_check.specs.Legality.{IsRunFaultOf};
-ghost use Rattle.cl_check.specs.Inner.Following.{ChecksCores, ChecksRun};
+ghost use Rattle.cl_check.specs.{Legality.IsRunFaultOf, Inner.Following.{ChecksCores, ChecksRun}};
 
 use crate::run_fault::RunFault;
 use crate::schedule_check::check_core;

@@ -1,7 +1,6 @@
 //! Checking whether a run is in order: whether its moments can be measured, be it legal or not.
 ghost use Rattle.std.specs.Prelude.{◌↔◌, ◌≤◌, IsTrue, All};
-ghost use Rattle.cl_runs.specs.SystemOf.{system_of};
-ghost use Rattle.cl_runs.specs.Run.{IsInForm};
+ghost use Rattle.cl_runs.specs.{SystemOf.system_of, Run.IsInForm};
 ghost use Rattle.cl_check.specs.InOrder.{AreTimesPositive, DoArrivalsRise, AreJobsInOrder, IsRunInOrder};
 
 use cl_model::ValidModel;

@@ -1,14 +1,9 @@
 //! When the jobs of a task start, or finish, by the list of the task. Times are in ticks.
 ghost use Rattle.std.specs.Prelude.{◌≡◌, ◌-◌, ◌^◌, ◌+◌, ◌<◌, ◌≤◌, length, min, slice_index, All, IfOk};
 ghost use Rattle.cl_model.specs.ByNumber.{task_at};
-ghost use Rattle.cl_runs.specs.declared.job.Job.{Job};
-ghost use Rattle.cl_runs.specs.SystemOf.{system_of};
-ghost use Rattle.cl_runs.specs.Run.{IsInForm, jobs_of};
+ghost use Rattle.cl_runs.specs.{declared.job.Job.Job, SystemOf.system_of, Run.{IsInForm, jobs_of}};
 ghost use Rattle.cl_run_data.specs.Stretches.{entries_from, AreLongest};
-ghost use Rattle.cl_check.specs.Apart.{StandApart};
-ghost use Rattle.cl_check.specs.InOrder.{AreTimesPositive};
-ghost use Rattle.cl_check.specs.JobMoments.{IsMomentOf, AreEndsOfJobs};
-ghost use Rattle.cl_check.specs.Inner.Walks.{IsEndAfter, StandsIn, AreEndsIn};
+ghost use Rattle.cl_check.specs.{Apart.StandApart, InOrder.AreTimesPositive, JobMoments.{IsMomentOf, AreEndsOfJobs}, Inner.Walks.{IsEndAfter, StandsIn, AreEndsIn}};
 
 use crate::job_moments::time_after;
 use crate::walk::Walk;

@@ -1,13 +1,9 @@
 //! When the jobs of a task start and finish. Times are in ticks.
 ghost use Rattle.std.specs.Prelude.{◌≡◌, ◌+◌, ◌-◌, ◌^◌, ◌<◌, ◌≤◌, length, sum, min, slice_index, All, IfOk};
 ghost use Rattle.cl_model.specs.ByNumber.{task_at};
-ghost use Rattle.cl_runs.specs.declared.job.Job.{Job};
-ghost use Rattle.cl_runs.specs.SystemOf.{system_of};
-ghost use Rattle.cl_runs.specs.Run.{IsInForm, jobs_of};
+ghost use Rattle.cl_runs.specs.{declared.job.Job.Job, SystemOf.system_of, Run.{IsInForm, jobs_of}};
 ghost use Rattle.cl_run_data.specs.Stretches.{entries_from, AreLongest};
-ghost use Rattle.cl_check.specs.InOrder.{AreTimesPositive};
-ghost use Rattle.cl_check.specs.JobMoments.{IsMomentOf, AreMoments};
-ghost use Rattle.cl_check.specs.Inner.Walks.{RunsAfter, EndsAfter, StandsIn, AreMomentsIn};
+ghost use Rattle.cl_check.specs.{InOrder.AreTimesPositive, JobMoments.{IsMomentOf, AreMoments}, Inner.Walks.{RunsAfter, EndsAfter, StandsIn, AreMomentsIn}};
 
 use crate::walk::Walk;
 use cl_model::{List, ValidModel};

@@ -1,14 +1,7 @@
 //! Legal runs are in order, and so is what a run shows of one.
 ghost use Rattle.std.specs.Prelude.{ℕ, ◌<◌, List, length};
-ghost use Rattle.cl_model.specs.declared.model.SystemModel.{SystemModel};
-ghost use Rattle.cl_model.specs.declared.group.Group.{Group};
-ghost use Rattle.cl_model.specs.Groups.{groups_at};
-ghost use Rattle.cl_model.specs.Validity.{IsValid};
-ghost use Rattle.cl_runs.specs.TaskTiming.{System, IsSound};
-ghost use Rattle.cl_runs.specs.SystemOf.{system_of};
-ghost use Rattle.cl_runs.specs.Run.{Run, jobs_of};
-ghost use Rattle.cl_runs.specs.Legal.{IsLegal};
-ghost use Rattle.cl_runs.specs.MomentOrder.{AreGroupsOf};
+ghost use Rattle.cl_model.specs.{declared.{model.SystemModel.SystemModel, group.Group.Group}, Groups.groups_at, Validity.IsValid};
+ghost use Rattle.cl_runs.specs.{TaskTiming.{System, IsSound}, SystemOf.system_of, Run.{Run, jobs_of}, Legal.IsLegal, MomentOrder.AreGroupsOf};
 ghost use Rattle.cl_run_data.specs.Parts.{ShowsTask, ShowsGroups};
 ghost use Rattle.cl_check.specs.InOrder.{AreJobsInOrder, IsRunInOrder, AreGroupsInOrder};
 

@@ -1,9 +1,6 @@
 //! Checking whether the cores execute what is scheduled. Times are in ticks.
 ghost use Rattle.std.specs.Prelude.{◌≡◌, ◌<◌, length};
-ghost use Rattle.cl_runs.specs.Run.{IsInForm};
-ghost use Rattle.cl_runs.specs.SystemOf.{system_of};
-ghost use Rattle.cl_runs.specs.TaskTiming.{IsSound};
-ghost use Rattle.cl_runs.specs.Table.{IsLawful};
+ghost use Rattle.cl_runs.specs.{Run.IsInForm, SystemOf.system_of, TaskTiming.IsSound, Table.IsLawful};
 ghost use Rattle.cl_check.specs.Inner.Following.{IsFollowed, Lasts, Follows, ChecksCore};
 
 use crate::run_fault::{Rule, RunFault};

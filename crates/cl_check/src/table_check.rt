@@ -1,10 +1,8 @@
 //! Checking whether a job table is lawful. Times are in ticks.
 ghost use Rattle.std.specs.Prelude.{◌≡◌, ◌<◌, ◌++◌, length, map};
 ghost use Rattle.cl_model.specs.Validity.{IsValid};
-ghost use Rattle.cl_runs.specs.Pattern.{IsPattern};
-ghost use Rattle.cl_runs.specs.SystemOf.{range_of, system_of};
-ghost use Rattle.cl_check.specs.Legality.{are_in_range, arrival_faults, release_faults, job_faults, task_faults, faults_of_task, table_faults};
-ghost use Rattle.cl_check.specs.Inner.Finding.{Finds};
+ghost use Rattle.cl_runs.specs.{Pattern.IsPattern, SystemOf.{range_of, system_of}};
+ghost use Rattle.cl_check.specs.{Legality.{are_in_range, arrival_faults, release_faults, job_faults, task_faults, faults_of_task, table_faults}, Inner.Finding.Finds};
 
 use crate::interval::Interval;
 use crate::run_fault::{Rule, RunFault};

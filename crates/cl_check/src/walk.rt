@@ -3,8 +3,7 @@
 ghost use Rattle.std.specs.Prelude.{◌≡◌, ◌+◌, ◌-◌, ◌^◌, ◌<◌, ◌≤◌, cond, true, MatchOption};
 ghost use Rattle.cl_runs.specs.Run.{is_task};
 ghost use Rattle.cl_run_data.specs.Stretches.{entries_from, AreLongest};
-ghost use Rattle.cl_check.specs.JobMoments.{IsMomentOf};
-ghost use Rattle.cl_check.specs.Inner.Walks.{RunsAfter, StandsIn};
+ghost use Rattle.cl_check.specs.{JobMoments.IsMomentOf, Inner.Walks.{RunsAfter, StandsIn}};
 
 use cl_run_data::Stretch;
 

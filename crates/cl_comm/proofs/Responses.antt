@@ -1,9 +1,7 @@
 -- The window of a runnable by the response of its task: only its end depends on that, and never falls as that grows.
 use Rattle.std.proofs.Common.{◌≡◌, ℕ, ◌≤◌, refl, arith}
-use Rattle.cl_model.specs.declared.task.AccessKind.{AccessKind}
-use Rattle.cl_model.specs.declared.task.AccessKind.TheVariants.{Explicit, Implicit, Timed}
-use Rattle.cl_comm.specs.declared.spot.Spot.{Spot}
-use Rattle.cl_comm.specs.Windows.{window_of}
+use Rattle.cl_model.specs.declared.task.AccessKind.{AccessKind, TheVariants.{Explicit, Implicit, Timed}}
+use Rattle.cl_comm.specs.{declared.spot.Spot.Spot, Windows.window_of}
 
 pub reads_stay : (access : AccessKind) (spot : Spot) (response other : ℕ)
     → (window_of access spot response).rlo ≡ (window_of access spot other).rlo

@@ -7,17 +7,10 @@ use Rattle.std.proofs.lemmas.List.{get_or-map, take-map, take_all, length-drop}
 use Rattle.std.proofs.lemmas.List.Elements.{All-get_or, All-weaker}
 use Rattle.std.proofs.lemmas.List.Folds.{fold-map}
 use Rattle.std.proofs.lemmas.List.Sums.{sum_by-le, sum_by-take-le, sum_by-take-drop}
-use Rattle.cl_model.specs.declared.limits.TheConstants.{MOST_TICKS, MOST_RUNNABLES}
-use Rattle.cl_model.specs.declared.model.SystemModel.{SystemModel}
-use Rattle.cl_model.specs.declared.task.RunnableDef.{RunnableDef}
-use Rattle.cl_model.specs.ByNumber.{no_task, task_at, deadline_of}
-use Rattle.cl_model.specs.Ranges.{IsRunnableInRange, IsTaskInRange}
-use Rattle.cl_model.specs.Validity.{IsValid}
-use Rattle.cl_runs.specs.TaskTiming.{TimeRange, Timing, timing_at, no_range}
-use Rattle.cl_runs.specs.SystemOf.{range_of, system_of}
+use Rattle.cl_model.specs.{declared.{limits.TheConstants.{MOST_TICKS, MOST_RUNNABLES}, model.SystemModel.SystemModel, task.RunnableDef.RunnableDef}, ByNumber.{no_task, task_at, deadline_of}, Ranges.{IsRunnableInRange, IsTaskInRange}, Validity.IsValid}
+use Rattle.cl_runs.specs.{TaskTiming.{TimeRange, Timing, timing_at, no_range}, SystemOf.{range_of, system_of}}
 use Rattle.cl_runs.proofs.ModelSystem.{timing_is}
-use Rattle.cl_comm.specs.declared.spot.Spot.{Spot}
-use Rattle.cl_comm.specs.Windows.{least_times, spot_at}
+use Rattle.cl_comm.specs.{declared.spot.Spot.Spot, Windows.{least_times, spot_at}}
 
 -- the sum of the least times of runnables
 abbrev pub least_sum : List RunnableDef → ℕ

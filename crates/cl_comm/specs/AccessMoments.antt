@@ -1,10 +1,7 @@
 -- The read and write moments of the tasks of one kind of access, and whether they run as they read.
 use Rattle.std.specs.Prelude.{◌≡◌, ℕ, Bool, not}
-use Rattle.cl_model.specs.declared.task.AccessKind.{AccessKind}
-use Rattle.cl_model.specs.Kinds.{is_timed}
-use Rattle.cl_runs.specs.TaskTiming.{System, timing_at}
-use Rattle.cl_runs.specs.Run.{Run}
-use Rattle.cl_runs.specs.Moments.{Reads, Writes}
+use Rattle.cl_model.specs.{declared.task.AccessKind.AccessKind, Kinds.is_timed}
+use Rattle.cl_runs.specs.{TaskTiming.{System, timing_at}, Run.Run, Moments.{Reads, Writes}}
 
 -- task i is of this kind of access, and runnable p of its job k reads at t
 pub record ReadsAs (kind : AccessKind) (system : System) (run : Run) (i k p t : ℕ) : Type 0 where

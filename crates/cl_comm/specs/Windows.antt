@@ -1,10 +1,8 @@
 -- The window of a runnable: when it reads and writes, counted from the arrival of its job.
 use Rattle.std.specs.Prelude.{ℕ, suc, ◌+◌, ◌-◌, List, take, drop, sum_by}
-use Rattle.cl_model.specs.declared.task.AccessKind.{AccessKind}
-use Rattle.cl_model.specs.declared.task.AccessKind.TheVariants.{Explicit, Implicit, Timed}
+use Rattle.cl_model.specs.declared.task.AccessKind.{AccessKind, TheVariants.{Explicit, Implicit, Timed}}
 use Rattle.cl_runs.specs.TaskTiming.{TimeRange, Timing, range_at}
-use Rattle.cl_comm.specs.declared.spot.Spot.{Spot}
-use Rattle.cl_comm.specs.declared.spot.Window.{Window}
+use Rattle.cl_comm.specs.declared.spot.{Spot.Spot, Window.Window}
 
 -- the sum of the least times of runnables
 unfoldable pub least_times : List TimeRange → ℕ

@@ -1,13 +1,7 @@
 //! Ways to access labels.
 ghost use Rattle.std.specs.Prelude.{◌≡◌, ℕ, Bool, true, ◌+◌, ◌<◌, ◌≤◌, length};
-ghost use Rattle.cl_runs.specs.TaskTiming.{Timing, System, timing_at, IsSound};
-ghost use Rattle.cl_runs.specs.Table.{job_at};
-ghost use Rattle.cl_runs.specs.Run.{Run, jobs_of};
-ghost use Rattle.cl_runs.specs.Legal.{IsLegal};
-ghost use Rattle.cl_runs.specs.Moments.{Starts, JobFinishes};
-ghost use Rattle.cl_comm.specs.declared.spot.Spot.{Spot};
-ghost use Rattle.cl_comm.specs.declared.spot.Window.{Window};
-ghost use Rattle.cl_comm.specs.Windows.{spot_at};
+ghost use Rattle.cl_runs.specs.{TaskTiming.{Timing, System, timing_at, IsSound}, Table.job_at, Run.{Run, jobs_of}, Legal.IsLegal, Moments.{Starts, JobFinishes}};
+ghost use Rattle.cl_comm.specs.{declared.spot.{Spot.Spot, Window.Window}, Windows.spot_at};
 
 use crate::spot::{Spot, Window};
 

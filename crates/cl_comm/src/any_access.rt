@@ -1,7 +1,6 @@
 //! Any way to access labels.
 ghost use Rattle.std.specs.Prelude.{◌≡◌};
-ghost use Rattle.cl_comm.specs.Windows.{window_of};
-ghost use Rattle.cl_comm.specs.AccessKinds.{access_kind_of};
+ghost use Rattle.cl_comm.specs.{Windows.window_of, AccessKinds.access_kind_of};
 ghost use Rattle.cl_comm.specs.AccessMoments as moments;
 ghost use Rattle.cl_comm.specs.Inner.AccessTimes as times;
 ghost use Rattle.cl_comm.specs.Inner.KindLaws as laws;

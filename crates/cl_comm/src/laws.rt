@@ -1,15 +1,9 @@
 //! When the runnables of jobs read and write, relative to their windows, in every legal run of
 //! every sound system.
 ghost use Rattle.std.specs.Prelude.{ℕ, ◌+◌, ◌<◌, ◌≤◌, ◌≡◌, ◌≢◌, length};
-ghost use Rattle.cl_model.specs.declared.task.AccessKind.{AccessKind};
-ghost use Rattle.cl_model.specs.declared.task.AccessKind.TheVariants.{Timed};
-ghost use Rattle.cl_runs.specs.TaskTiming.{System, timing_at, IsSound};
-ghost use Rattle.cl_runs.specs.Table.{job_at};
-ghost use Rattle.cl_runs.specs.Run.{Run, jobs_of};
-ghost use Rattle.cl_runs.specs.Legal.{IsLegal};
-ghost use Rattle.cl_runs.specs.Moments.{Starts, JobFinishes, Reads, Writes};
-ghost use Rattle.cl_comm.specs.declared.spot.Spot.{Spot};
-ghost use Rattle.cl_comm.specs.Windows.{spot_at, window_of, window_at};
+ghost use Rattle.cl_model.specs.declared.task.AccessKind.{AccessKind, TheVariants.Timed};
+ghost use Rattle.cl_runs.specs.{TaskTiming.{System, timing_at, IsSound}, Table.job_at, Run.{Run, jobs_of}, Legal.IsLegal, Moments.{Starts, JobFinishes, Reads, Writes}};
+ghost use Rattle.cl_comm.specs.{declared.spot.Spot.Spot, Windows.{spot_at, window_of, window_at}};
 
 /// A runnable reads no earlier than `rlo` of its window, counted from its job's arrival, whatever
 /// the response.

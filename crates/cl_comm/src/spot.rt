@@ -1,9 +1,7 @@
 //! Where a runnable stands in its task, and its window.
 ghost use Rattle.std.specs.Prelude.{◌≡◌, ◌^◌, ◌<◌, length, sum_by};
-ghost use Rattle.cl_model.specs.declared.task.RunnableDef.{RunnableDef};
-ghost use Rattle.cl_model.specs.ByNumber.{task_at};
-ghost use Rattle.cl_runs.specs.SystemOf.{system_of};
-ghost use Rattle.cl_runs.specs.TaskTiming.{timing_at};
+ghost use Rattle.cl_model.specs.{declared.task.RunnableDef.RunnableDef, ByNumber.task_at};
+ghost use Rattle.cl_runs.specs.{SystemOf.system_of, TaskTiming.timing_at};
 ghost use Rattle.cl_comm.specs.Windows.{spot_at};
 
 use cl_model::{RunnableDef, ValidModel};

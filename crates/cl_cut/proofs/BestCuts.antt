@@ -4,12 +4,8 @@ use Rattle.std.specs.Prelude.{slice_index}
 use Rattle.std.proofs.lemmas.Bool.{cases_lt}
 use Rattle.cl_model.specs.declared.group.Group.{Group}
 use Rattle.cl_runs.specs.TaskTiming.{System}
-use Rattle.cl_cut.specs.Values.{part, IsValue}
-use Rattle.cl_cut.specs.Cuts.{IsCutFrom, IsCost, IsNotAfter, IsBestCutFrom, IsBestCut}
-use Rattle.cl_cut.specs.Inner.Rears.{ArePositive}
-use Rattle.cl_cut.proofs.Dictionary.{not_after_rest, not_after_less, not_after_empty, same_list}
-use Rattle.cl_cut.proofs.SafeCuts.{cut_rest, cut_begins}
-use Rattle.cl_cut.proofs.CutCosts.{value_once, cost_some, cost_parts, cut_joined, cost_joined, cut_alone, cost_alone, alone_costs}
+use Rattle.cl_cut.specs.{Values.{part, IsValue}, Cuts.{IsCutFrom, IsCost, IsNotAfter, IsBestCutFrom, IsBestCut}, Inner.Rears.ArePositive}
+use Rattle.cl_cut.proofs.{Dictionary.{not_after_rest, not_after_less, not_after_empty, same_list}, SafeCuts.{cut_rest, cut_begins}, CutCosts.{value_once, cost_some, cost_parts, cut_joined, cost_joined, cut_alone, cost_alone, alone_costs}}
 
 -- the first group of the second piece, or 0 where there is none
 abbrev pub second : List ℕ → ℕ

@@ -3,40 +3,18 @@ use Rattle.std.proofs.Common.{◌≡◌, ℕ, ◌+◌, ◌<◌, ◌≤◌, Bool,
 use Rattle.std.specs.Prelude.{slice_index}
 use Rattle.std.proofs.lemmas.Bool.{false≢true}
 use Rattle.std.proofs.lemmas.List.{get_or_default, length-map}
-use Rattle.cl_model.specs.declared.group.Group.{Group}
-use Rattle.cl_model.specs.declared.model.SystemModel.{SystemModel}
-use Rattle.cl_model.specs.ByNumber.{chain_at}
-use Rattle.cl_model.specs.Groups.{groups_at}
-use Rattle.cl_model.specs.Validity.{IsValid}
+use Rattle.cl_model.specs.{declared.{group.Group.Group, model.SystemModel.SystemModel}, ByNumber.chain_at, Groups.groups_at, Validity.IsValid}
 use Rattle.cl_model.proofs.GroupFacts.{groups_at_are, groups_at_few, groups_at_some}
-use Rattle.cl_runs.specs.TaskTiming.{System, IsSound}
-use Rattle.cl_runs.specs.SystemOf.{system_of}
-use Rattle.cl_runs.specs.MomentOrder.{AreGroupsOf}
-use Rattle.cl_runs.proofs.ChainsOfRuns.{ideal_forward_ordered}
-use Rattle.cl_runs.proofs.Extension.{some_legal}
-use Rattle.cl_runs.proofs.ModelSystem.{system_sound}
-use Rattle.cl_bound.specs.Answers.{answers_of}
-use Rattle.cl_bound.specs.Bounds.{Lengths, bounds_of}
-use Rattle.cl_bound.specs.SettledChains.{IsSettledChain}
-use Rattle.cl_bound.proofs.ModelGroups.{settled_chain}
-use Rattle.cl_bound.proofs.SettledChains.{settled_safe, reaction_positive}
-use Rattle.cl_exact.specs.TimedPeriodic.{are_timed_periodic, is_timed_periodic_chain}
-use Rattle.cl_exact.specs.ExactLengths.{Witnesses, AreExactLengths, chain_of}
-use Rattle.cl_exact.proofs.RunExact.{exact_in_runs}
-use Rattle.cl_exact.proofs.SomeExact.{exact_lengths_exist}
-use Rattle.cl_analyse.specs.declared.findings.ChainAnswer.{ChainAnswer}
-use Rattle.cl_analyse.specs.declared.findings.ChainAnswer.TheVariants.{Bounds, Late}
-use Rattle.cl_analyse.specs.ChainAnswers.{chain_answer, chain_answer_of, chain_answers_of, chain_answer_at}
-use Rattle.cl_analyse.proofs.FirstLate.{settled_groups}
-use Rattle.cl_analyse.proofs.SafeFindings.{answer_of_chain, chain_settled, late_where}
-use Rattle.cl_cut.specs.Values.{part, IsValue}
-use Rattle.cl_cut.specs.Cuts.{IsBestCut}
-use Rattle.cl_cut.specs.CutAnswers.{late_task_of, IsSafeReaction, IsNoWorse}
-use Rattle.cl_cut.specs.Inner.Rears.{AreSettledGroups, AreValuesFrom, ArePositive, AreSome}
-use Rattle.cl_cut.proofs.Parts.{length-part, part_rest}
-use Rattle.cl_cut.proofs.SafeCuts.{settled_part, settled_timed, cut_safe}
-use Rattle.cl_cut.proofs.CutCosts.{cut_alone, cost_alone}
-use Rattle.cl_cut.proofs.ValueFacts.{past_value}
+use Rattle.cl_runs.specs.{TaskTiming.{System, IsSound}, SystemOf.system_of, MomentOrder.AreGroupsOf}
+use Rattle.cl_runs.proofs.{ChainsOfRuns.ideal_forward_ordered, Extension.some_legal, ModelSystem.system_sound}
+use Rattle.cl_bound.specs.{Answers.answers_of, Bounds.{Lengths, bounds_of}, SettledChains.IsSettledChain}
+use Rattle.cl_bound.proofs.{ModelGroups.settled_chain, SettledChains.{settled_safe, reaction_positive}}
+use Rattle.cl_exact.specs.{TimedPeriodic.{are_timed_periodic, is_timed_periodic_chain}, ExactLengths.{Witnesses, AreExactLengths, chain_of}}
+use Rattle.cl_exact.proofs.{RunExact.exact_in_runs, SomeExact.exact_lengths_exist}
+use Rattle.cl_analyse.specs.{declared.findings.ChainAnswer.{ChainAnswer, TheVariants.{Bounds, Late}}, ChainAnswers.{chain_answer, chain_answer_of, chain_answers_of, chain_answer_at}}
+use Rattle.cl_analyse.proofs.{FirstLate.settled_groups, SafeFindings.{answer_of_chain, chain_settled, late_where}}
+use Rattle.cl_cut.specs.{Values.{part, IsValue}, Cuts.IsBestCut, CutAnswers.{late_task_of, IsSafeReaction, IsNoWorse}, Inner.Rears.{AreSettledGroups, AreValuesFrom, ArePositive, AreSome}}
+use Rattle.cl_cut.proofs.{Parts.{length-part, part_rest}, SafeCuts.{settled_part, settled_timed, cut_safe}, CutCosts.{cut_alone, cost_alone}, ValueFacts.past_value}
 
 module _ (system : System) (sound : IsSound system) where
   groups_of_tasks : (groups : List Group) → IsSettledChain system groups → AreGroupsOf system groups

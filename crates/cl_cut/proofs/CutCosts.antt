@@ -6,9 +6,7 @@ use Rattle.cl_model.specs.declared.group.Group.{Group}
 use Rattle.cl_runs.specs.TaskTiming.{System}
 use Rattle.cl_exact.specs.ExactLengths.{Witnesses}
 use Rattle.cl_exact.proofs.ExactOnce.{exact_unique}
-use Rattle.cl_cut.specs.Values.{part, IsValue}
-use Rattle.cl_cut.specs.Cuts.{end_of_piece, piece_groups, IsCutFrom, IsCost}
-use Rattle.cl_cut.specs.Inner.Rears.{ArePositive, AreSome}
+use Rattle.cl_cut.specs.{Values.{part, IsValue}, Cuts.{end_of_piece, piece_groups, IsCutFrom, IsCost}, Inner.Rears.{ArePositive, AreSome}}
 use Rattle.cl_cut.proofs.SafeCuts.{cut_rest, cut_begins}
 
 -- groups have one value

@@ -2,16 +2,10 @@
 use Rattle.std.proofs.Common.{◌≡◌, ℕ, zero, suc, ◌+◌, ◌<◌, ◌≤◌, inl, inr, Option, Some, None, List, [], ◌∷◌, ◌++◌, length, refl, sym, ap, ◌∙◌, subst, arith}
 use Rattle.std.proofs.lemmas.Bool.{cases_lt}
 use Rattle.std.proofs.lemmas.List.{ext_get_or, get_or_append_left, length_push, get_or_push}
-use Rattle.cl_model.specs.declared.model.SystemModel.{SystemModel}
-use Rattle.cl_model.specs.Groups.{groups_at}
-use Rattle.cl_model.specs.Validity.{IsValid}
+use Rattle.cl_model.specs.{declared.model.SystemModel.SystemModel, Groups.groups_at, Validity.IsValid}
 use Rattle.cl_runs.specs.SystemOf.{system_of}
-use Rattle.cl_cut.specs.declared.answer.CutAnswer.{CutAnswer}
-use Rattle.cl_cut.specs.declared.answer.CutAnswer.TheVariants.{Cut, Late}
-use Rattle.cl_cut.specs.CutAnswers.{late_task_of, IsCutAnswer, IsSafeAnswer, IsNoWorseAnswer, cut_answer_at, AreCutAnswers, AreSafeAnswers, AreNoWorseAnswers}
-use Rattle.cl_cut.proofs.BestCuts.{one_best, one_cost}
-use Rattle.cl_cut.proofs.ChainValues.{best_safe, best_no_worse}
-use Rattle.cl_cut.proofs.SomeCut.{best_exists}
+use Rattle.cl_cut.specs.{declared.answer.CutAnswer.{CutAnswer, TheVariants.{Cut, Late}}, CutAnswers.{late_task_of, IsCutAnswer, IsSafeAnswer, IsNoWorseAnswer, cut_answer_at, AreCutAnswers, AreSafeAnswers, AreNoWorseAnswers}}
+use Rattle.cl_cut.proofs.{BestCuts.{one_best, one_cost}, ChainValues.{best_safe, best_no_worse}, SomeCut.best_exists}
 
 -- ---- one answer
 

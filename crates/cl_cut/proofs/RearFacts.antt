@@ -5,11 +5,7 @@ use Rattle.std.proofs.lemmas.Bool.{cases_lt, lt-ltb, le-ltb}
 use Rattle.std.proofs.lemmas.List.{get_or_append_left, length_push, get_or_push, get_or_default}
 use Rattle.cl_model.specs.declared.group.Group.{Group}
 use Rattle.cl_runs.specs.TaskTiming.{System}
-use Rattle.cl_cut.specs.Values.{part, IsValue}
-use Rattle.cl_cut.specs.Cuts.{IsBestCutFrom, IsBestCut}
-use Rattle.cl_cut.specs.declared.rears.Front.{Front}
-use Rattle.cl_cut.specs.declared.rears.Rear.{Rear}
-use Rattle.cl_cut.specs.Inner.Rears.{no_rear, rear_at, AreRears, AreValuesFrom, ArePositive, CostSome, pieces_behind}
+use Rattle.cl_cut.specs.{Values.{part, IsValue}, Cuts.{IsBestCutFrom, IsBestCut}, declared.rears.{Front.Front, Rear.Rear}, Inner.Rears.{no_rear, rear_at, AreRears, AreValuesFrom, ArePositive, CostSome, pieces_behind}}
 use Rattle.cl_cut.proofs.BestCuts.{IsBestBelow, best_alone, best_there, best_before, best_at_end}
 
 -- the best of the first pieces that were looked at, from the whole rear part on

@@ -5,28 +5,15 @@ use Rattle.std.specs.Prelude.{All, slice_index}
 use Rattle.std.proofs.lemmas.Bool.{cases_lt}
 use Rattle.std.proofs.lemmas.List.{drop-drop, length-drop, length-take-le, get_or-drop, get_or-take}
 use Rattle.std.proofs.lemmas.List.Sums.{sum_by-cons}
-use Rattle.cl_model.specs.declared.group.Group.{Group}
-use Rattle.cl_model.specs.Groups.{no_group, group_at}
-use Rattle.cl_runs.specs.TaskTiming.{System, IsSound}
-use Rattle.cl_runs.specs.Run.{Run}
-use Rattle.cl_runs.specs.Legal.{IsLegal}
-use Rattle.cl_runs.specs.Chains.{JobChain, chain_length, last_group, IsForwardChain}
-use Rattle.cl_runs.specs.MomentOrder.{HaveReadBeforeWriting}
-use Rattle.cl_runs.specs.RunChains.{run_moments}
-use Rattle.cl_runs.proofs.ChainParts.{part_complete}
-use Rattle.cl_runs.proofs.ChainsOrdered.{forward_ordered}
-use Rattle.cl_runs.proofs.MomentFacts.{has_read, earlier_read}
-use Rattle.cl_runs.proofs.OrderedMoments.{run_in_order}
-use Rattle.cl_bound.specs.Answers.{answers_of, answer_at, is_late}
-use Rattle.cl_bound.specs.SettledChains.{IsGroupOfTask, IsSettledChain}
+use Rattle.cl_model.specs.{declared.group.Group.Group, Groups.{no_group, group_at}}
+use Rattle.cl_runs.specs.{TaskTiming.{System, IsSound}, Run.Run, Legal.IsLegal, Chains.{JobChain, chain_length, last_group, IsForwardChain}, MomentOrder.HaveReadBeforeWriting, RunChains.run_moments}
+use Rattle.cl_runs.proofs.{ChainParts.part_complete, ChainsOrdered.forward_ordered, MomentFacts.{has_read, earlier_read}, OrderedMoments.run_in_order}
+use Rattle.cl_bound.specs.{Answers.{answers_of, answer_at, is_late}, SettledChains.{IsGroupOfTask, IsSettledChain}}
 use Rattle.cl_bound.proofs.SettledChains.{settled_safe}
-use Rattle.cl_exact.specs.TimedPeriodic.{are_timed_periodic}
-use Rattle.cl_exact.specs.RunPromises.{IsSettledTimedChain}
+use Rattle.cl_exact.specs.{TimedPeriodic.are_timed_periodic, RunPromises.IsSettledTimedChain}
 use Rattle.cl_exact.proofs.RunExact.{exact_in_runs}
 use Rattle.cl_analyse.proofs.ExactAnswers.{settled_have_responses}
-use Rattle.cl_cut.specs.Values.{part, IsValue}
-use Rattle.cl_cut.specs.Cuts.{piece_groups, IsCutFrom, IsCut, IsCost}
-use Rattle.cl_cut.specs.CutAnswers.{IsSafeReaction}
+use Rattle.cl_cut.specs.{Values.{part, IsValue}, Cuts.{piece_groups, IsCutFrom, IsCut, IsCost}, CutAnswers.IsSafeReaction}
 use Rattle.cl_cut.proofs.Parts.{All-part, part_rest}
 
 -- ---- settled chains

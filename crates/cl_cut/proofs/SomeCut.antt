@@ -2,27 +2,16 @@
 use Rattle.std.proofs.Common.{◌≡◌, ℕ, zero, suc, ◌+◌, ◌-◌, ◌<◌, ◌≤◌, Bool, true, false, inl, inr, None, List, [], ◌∷◌, length, refl, sym, ◌∙◌, subst, arith}
 use Rattle.std.proofs.lemmas.Bool.{cases_lt, false≢true}
 use Rattle.std.specs.Prelude.{All}
-use Rattle.cl_model.specs.declared.limits.TheConstants.{MOST_STEPS}
-use Rattle.cl_model.specs.declared.group.Group.{Group}
-use Rattle.cl_model.specs.declared.model.SystemModel.{SystemModel}
-use Rattle.cl_model.specs.Groups.{groups_at, IsGroupOf}
-use Rattle.cl_model.specs.Validity.{IsValid}
+use Rattle.cl_model.specs.{declared.{limits.TheConstants.MOST_STEPS, group.Group.Group, model.SystemModel.SystemModel}, Groups.{groups_at, IsGroupOf}, Validity.IsValid}
 use Rattle.cl_model.proofs.GroupFacts.{groups_at_are, groups_at_few, groups_at_some}
-use Rattle.cl_runs.specs.TaskTiming.{System}
-use Rattle.cl_runs.specs.SystemOf.{system_of}
+use Rattle.cl_runs.specs.{TaskTiming.System, SystemOf.system_of}
 use Rattle.cl_runs.proofs.ModelSystem.{system_sound}
 use Rattle.cl_bound.specs.Bounds.{bounds_of}
 use Rattle.cl_exact.specs.TimedPeriodic.{are_timed_periodic}
 use Rattle.cl_exact.proofs.SomeExact.{exact_of_groups_exist}
 use Rattle.cl_analyse.proofs.SafeFindings.{chain_settled}
-use Rattle.cl_cut.specs.Values.{part, IsValue}
-use Rattle.cl_cut.specs.Cuts.{IsBestCutFrom, HasBestCut}
-use Rattle.cl_cut.specs.CutAnswers.{late_task_of}
-use Rattle.cl_cut.specs.Inner.Rears.{ArePositive}
-use Rattle.cl_cut.proofs.BestCuts.{IsBestBelow, best_alone, best_there, best_before, best_at_end}
-use Rattle.cl_cut.proofs.ChainValues.{positive}
-use Rattle.cl_cut.proofs.Parts.{length-part, All-part}
-use Rattle.cl_cut.proofs.ValueFacts.{past_value}
+use Rattle.cl_cut.specs.{Values.{part, IsValue}, Cuts.{IsBestCutFrom, HasBestCut}, CutAnswers.late_task_of, Inner.Rears.ArePositive}
+use Rattle.cl_cut.proofs.{BestCuts.{IsBestBelow, best_alone, best_there, best_before, best_at_end}, ChainValues.positive, Parts.{length-part, All-part}, ValueFacts.past_value}
 
 -- groups have a value
 record HasValue (system : System) (groups : List Group) : Type 0 where

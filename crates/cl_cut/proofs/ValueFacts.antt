@@ -1,5 +1,5 @@
 -- Values of groups, and the loop over the pieces that begin with a group.
-use Rattle.std.proofs.Common.{◌≡◌, ℕ, ◌+◌, ◌-◌, ◌<◌, inl, inr, Option, Some, None, List, [], ◌∷◌, ◌++◌, length, take, take-take, drop, refl, sym, ap, subst, ◌∙◌, arith}
+use Rattle.std.proofs.Common.{◌≡◌, ℕ, ◌+◌, ◌-◌, ◌<◌, inl, inr, Option, Some, None, List, [], ◌∷◌, ◌++◌, length, take, take-take, drop, sym, ap, subst, ◌∙◌, arith}
 use Rattle.std.specs.Prelude.{slice_index}
 use Rattle.std.specs.Option.{unwrap_or}
 use Rattle.std.proofs.lemmas.Bool.{cases_lt}
@@ -7,11 +7,9 @@ use Rattle.std.proofs.lemmas.List.{get_or_append_left, length_push, get_or_push,
 use Rattle.cl_model.specs.declared.group.Group.{Group}
 use Rattle.cl_runs.specs.TaskTiming.{System}
 use Rattle.cl_bound.specs.Bounds.{bounds_of}
-use Rattle.cl_exact.specs.ExactReactions.{IsReactionOf}
-use Rattle.cl_exact.specs.Hyperperiod.{IsPastLimit}
+use Rattle.cl_exact.specs.{ExactReactions.IsReactionOf, Hyperperiod.IsPastLimit}
 use Rattle.cl_exact.proofs.ExactOnce.{hyperperiod_once}
 use Rattle.cl_cut.specs.Values.{part, IsValue}
-use Rattle.cl_cut.specs.Inner.Rears.{AreValuesFrom}
 
 -- past the limit the value of groups is the bound
 pub past_value : (system : System) (groups : List Group) (value : ℕ) → IsPastLimit system groups → value ≡ (bounds_of system groups).reaction → IsValue system groups value
@@ -50,9 +48,6 @@ pub record AreFirstValues (system : System) (groups : List Group) (first count :
   pub each : (k : ℕ) → k < count → IsValue system (part groups first (first + 1 + k)) (slice_index values k)
 
 module _ (system : System) (groups : List Group) (first : ℕ) where
-  pub no_values : AreFirstValues system groups first 0 []
-  no_values = record { as_many = refl; each = λ k lt. absurd (omega (arith, lt)) }
-
   pub one_more_value : (values pushed : List ℕ) (count value : ℕ) → AreFirstValues system groups first count values
       → IsValue system (part groups first (first + 1 + count)) value → pushed ≡ values ++ value ∷ []
       → AreFirstValues system groups first (count + 1) pushed
@@ -68,10 +63,3 @@ module _ (system : System) (groups : List Group) (first : ℕ) where
           (subst (λ n. IsValue system (part groups first (first + 1 + n)) value) same is_value)
     ];
   })
-
-  pub all_values : (values : List ℕ) (count : ℕ) → first + count ≡ length groups → AreFirstValues system groups first count values
-      → AreValuesFrom system groups first values
-  all_values values count all kept = record {
-    one_a_piece = omega (arith, all, kept.as_many);
-    each = λ k lt. kept.each k (omega (arith, lt, kept.as_many));
-  }

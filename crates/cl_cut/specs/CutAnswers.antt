@@ -1,24 +1,11 @@
 -- What is answered of the cuts of a chain, and what it promises. Times are in ticks.
 use Rattle.std.specs.Prelude.{◌≡◌, ℕ, ◌<◌, ◌≤◌, true, List, length, slice_index_or, Option, Some, None}
-use Rattle.cl_model.specs.declared.group.Group.{Group}
-use Rattle.cl_model.specs.declared.model.SystemModel.{SystemModel}
-use Rattle.cl_model.specs.ByNumber.{chain_at}
-use Rattle.cl_model.specs.Groups.{steps_of, groups_at}
-use Rattle.cl_runs.specs.TaskTiming.{System}
-use Rattle.cl_runs.specs.SystemOf.{system_of}
-use Rattle.cl_runs.specs.Run.{Run}
-use Rattle.cl_runs.specs.Legal.{IsLegal}
-use Rattle.cl_runs.specs.Chains.{JobChain, chain_length, IsForwardChain}
-use Rattle.cl_runs.specs.RunChains.{run_moments}
-use Rattle.cl_bound.specs.Answers.{answers_of}
-use Rattle.cl_bound.specs.Bounds.{bounds_of}
-use Rattle.cl_exact.specs.TimedPeriodic.{are_timed_periodic}
-use Rattle.cl_exact.specs.Hyperperiod.{IsWithinLimit}
-use Rattle.cl_exact.specs.ExactLengths.{Witnesses, AreExactLengths}
+use Rattle.cl_model.specs.{declared.{group.Group.Group, model.SystemModel.SystemModel}, ByNumber.chain_at, Groups.{steps_of, groups_at}}
+use Rattle.cl_runs.specs.{TaskTiming.System, SystemOf.system_of, Run.Run, Legal.IsLegal, Chains.{JobChain, chain_length, IsForwardChain}, RunChains.run_moments}
+use Rattle.cl_bound.specs.{Answers.answers_of, Bounds.bounds_of}
+use Rattle.cl_exact.specs.{TimedPeriodic.are_timed_periodic, Hyperperiod.IsWithinLimit, ExactLengths.{Witnesses, AreExactLengths}}
 use Rattle.cl_analyse.specs.ChainAnswers.{first_late}
-use Rattle.cl_cut.specs.declared.answer.CutAnswer.{CutAnswer}
-use Rattle.cl_cut.specs.declared.answer.CutAnswer.TheVariants.{Cut, Late}
-use Rattle.cl_cut.specs.Cuts.{IsBestCut}
+use Rattle.cl_cut.specs.{declared.answer.CutAnswer.{CutAnswer, TheVariants.{Cut, Late}}, Cuts.IsBestCut}
 
 -- the first late task along the steps of a chain, if there is one
 abbrev pub late_task_of : SystemModel → (chain : ℕ) → Option ℕ

@@ -1,14 +1,10 @@
 //! The best cuts of chains. Times are in ticks.
 ghost use Rattle.std.specs.Prelude.{◌≡◌, ◌-◌, ◌<◌, ◌≤◌, length, IfOk};
-ghost use Rattle.cl_model.specs.declared.model.SystemModel.{SystemModel};
-ghost use Rattle.cl_model.specs.Validity.{IsValid};
+ghost use Rattle.cl_model.specs.{declared.model.SystemModel.SystemModel, Validity.IsValid};
 ghost use Rattle.cl_runs.specs.SystemOf.{system_of};
 ghost use Rattle.cl_bound.specs.Answers.{answers_of};
-ghost use Rattle.cl_analyse.specs.ChainAnswers.{chain_answers_of};
-ghost use Rattle.cl_analyse.specs.Findings.{AreFindings};
-ghost use Rattle.cl_cut.specs.Cuts.{IsBestCut, IsBestCutFrom};
-ghost use Rattle.cl_cut.specs.CutAnswers.{late_task_of, IsCutAnswer, IsSafeAnswer, IsNoWorseAnswer, AreCutAnswers, AreSafeAnswers, AreNoWorseAnswers};
-ghost use Rattle.cl_cut.specs.Inner.Rears.{AreSettledGroups, AreRears, CostSome};
+ghost use Rattle.cl_analyse.specs.{ChainAnswers.chain_answers_of, Findings.AreFindings};
+ghost use Rattle.cl_cut.specs.{Cuts.{IsBestCut, IsBestCutFrom}, CutAnswers.{late_task_of, IsCutAnswer, IsSafeAnswer, IsNoWorseAnswer, AreCutAnswers, AreSafeAnswers, AreNoWorseAnswers}, Inner.Rears.{AreSettledGroups, AreRears, CostSome}};
 
 use crate::answer::CutAnswer;
 use crate::rears::{Rear, best_from};

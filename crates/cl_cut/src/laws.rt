@@ -1,15 +1,9 @@
 //! What holds of the cuts of every chain of every sound system.
 ghost use Rattle.std.specs.Prelude.{◌≡◌, ℕ, ◌<◌, List, None, length};
-ghost use Rattle.cl_model.specs.declared.group.Group.{Group};
-ghost use Rattle.cl_model.specs.declared.model.SystemModel.{SystemModel};
-ghost use Rattle.cl_model.specs.Groups.{groups_at};
-ghost use Rattle.cl_model.specs.Validity.{IsValid};
-ghost use Rattle.cl_runs.specs.SystemOf.{system_of};
-ghost use Rattle.cl_runs.specs.TaskTiming.{System, IsSound};
+ghost use Rattle.cl_model.specs.{declared.{group.Group.Group, model.SystemModel.SystemModel}, Groups.groups_at, Validity.IsValid};
+ghost use Rattle.cl_runs.specs.{SystemOf.system_of, TaskTiming.{System, IsSound}};
 ghost use Rattle.cl_bound.specs.SettledChains.{IsSettledChain};
-ghost use Rattle.cl_cut.specs.Cuts.{IsCut, IsCost, IsBestCut, HasBestCut};
-ghost use Rattle.cl_cut.specs.declared.answer.CutAnswer.{CutAnswer};
-ghost use Rattle.cl_cut.specs.CutAnswers.{late_task_of, IsSafeReaction, AreCutAnswers, AreSafeAnswers, AreNoWorseAnswers};
+ghost use Rattle.cl_cut.specs.{Cuts.{IsCut, IsCost, IsBestCut, HasBestCut}, declared.answer.CutAnswer.CutAnswer, CutAnswers.{late_task_of, IsSafeReaction, AreCutAnswers, AreSafeAnswers, AreNoWorseAnswers}};
 
 /// The cost of each cut of a settled chain of a sound system is at least the reaction of each of
 /// its complete forward chains in each legal run, of any length. The reason is that, where a chain

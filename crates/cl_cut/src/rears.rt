@@ -3,8 +3,7 @@
 ghost use Rattle.std.specs.Prelude.{◌≡◌, ℕ, ◌+◌, ◌<◌, ◌≤◌, ◌∷◌, List, length, IfOk};
 ghost use Rattle.cl_model.specs.declared.group.Group.{Group};
 ghost use Rattle.cl_runs.specs.TaskTiming.{System};
-ghost use Rattle.cl_cut.specs.Cuts.{IsBestCutFrom};
-ghost use Rattle.cl_cut.specs.Inner.Rears.{AreRears, AreValuesFrom, ArePositive, AreSome, CostSome, pieces_behind};
+ghost use Rattle.cl_cut.specs.{Cuts.IsBestCutFrom, Inner.Rears.{AreRears, AreValuesFrom, ArePositive, AreSome, CostSome, pieces_behind}};
 
 use cl_model::List;
 use cl_time::NoMemory;

@@ -5,18 +5,10 @@ use Rattle.std.proofs.lemmas.Int.{ints}
 use Rattle.std.proofs.lemmas.Bool.{cases_Bool, cases_lt, and_parts, ltb-true, leb-true, cond-true, cond-false}
 use Rattle.std.proofs.lemmas.List.Sums.{sum_by-cons}
 use Rattle.cl_model.specs.Timing.{greatest_jitter}
-use Rattle.cl_runs.specs.TaskTiming.{System, timing_at, IsSound}
-use Rattle.cl_runs.specs.declared.job.Job.{Job}
-use Rattle.cl_runs.specs.Table.{job_at}
-use Rattle.cl_runs.specs.Run.{Run, jobs_of}
-use Rattle.cl_runs.specs.Legal.{IsLegal}
+use Rattle.cl_runs.specs.{TaskTiming.{System, timing_at, IsSound}, declared.job.Job.Job, Table.job_at, Run.{Run, jobs_of}, Legal.IsLegal}
 use Rattle.cl_runs.proofs.RunArrivals.{arrivals_rise, released_late, released_within}
-use Rattle.cl_stim.specs.declared.phase.Phase.{Phase}
-use Rattle.cl_stim.specs.Phase.{IsPhase, IsArrivalOf, phase_of, arrives_at}
-use Rattle.cl_stim.specs.Releases.{releases_in}
-use Rattle.cl_stim.proofs.ArrivalTests.{test_from_arrival}
-use Rattle.cl_stim.proofs.PatternPhases.{phase_is}
-use Rattle.cl_stim.proofs.RunPhases.{run_arrives}
+use Rattle.cl_stim.specs.{declared.phase.Phase.Phase, Phase.{IsPhase, IsArrivalOf, phase_of, arrives_at}, Releases.releases_in}
+use Rattle.cl_stim.proofs.{ArrivalTests.test_from_arrival, PatternPhases.phase_is, RunPhases.run_arrives}
 use Rattle.cl_cycle.specs.Counts.{arrivals_from}
 use Rattle.cl_cycle.proofs.CountedTicks.{one_if, none_in_none, earlier}
 

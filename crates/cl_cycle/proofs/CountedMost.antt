@@ -5,15 +5,10 @@ use Rattle.std.specs.Int.{div_ceil}
 use Rattle.std.proofs.lemmas.Bool.{cases_lt}
 use Rattle.std.proofs.lemmas.Grind.{div_ceil_times}
 use Rattle.std.proofs.lemmas.Nat.{div-add-mod', mod_below}
-use Rattle.cl_model.specs.declared.stimulus.StimulusKind.{StimulusKind}
-use Rattle.cl_model.specs.declared.stimulus.StimulusKind.TheVariants.{Periodic, Sporadic, Burst}
-use Rattle.cl_model.specs.Timing.{greatest_jitter}
+use Rattle.cl_model.specs.{declared.stimulus.StimulusKind.{StimulusKind, TheVariants.{Periodic, Sporadic, Burst}}, Timing.greatest_jitter}
 use Rattle.cl_runs.specs.Pattern.{IsPattern}
-use Rattle.cl_stim.specs.declared.phase.Phase.{Phase}
-use Rattle.cl_stim.specs.Phase.{IsPhase, phase_of, since_turn}
-use Rattle.cl_stim.specs.Releases.{most_releases}
-use Rattle.cl_stim.proofs.TurnFacts.{multiples_ordered, period_some}
-use Rattle.cl_stim.proofs.PatternPhases.{phase_is}
+use Rattle.cl_stim.specs.{declared.phase.Phase.Phase, Phase.{IsPhase, phase_of, since_turn}, Releases.most_releases}
+use Rattle.cl_stim.proofs.{TurnFacts.{multiples_ordered, period_some}, PatternPhases.phase_is}
 use Rattle.cl_cycle.specs.Counts.{arrivals_from}
 use Rattle.cl_cycle.proofs.CountedTurns.{of_burst, burst_none, in_turns, turns_within, turns_whole, since_below, counted}
 

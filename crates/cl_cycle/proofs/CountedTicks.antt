@@ -8,8 +8,7 @@ use Rattle.std.proofs.lemmas.Bool.Decides.{nat_tests}
 use Rattle.std.proofs.lemmas.List.{map-id}
 use Rattle.std.proofs.lemmas.List.FromFn.{map-range_with_len_more, length-range_with_len}
 use Rattle.std.proofs.lemmas.List.Sums.{sum_by_push, count_by-le-length}
-use Rattle.cl_stim.specs.declared.phase.Phase.{Phase}
-use Rattle.cl_stim.specs.Phase.{IsPhase, since_turn, last_in_turn, arrives_at}
+use Rattle.cl_stim.specs.{declared.phase.Phase.Phase, Phase.{IsPhase, since_turn, last_in_turn, arrives_at}}
 use Rattle.cl_stim.proofs.PhaseSteps.{last_moved}
 use Rattle.cl_cycle.specs.Counts.{arrivals_from}
 

@@ -8,8 +8,7 @@ use Rattle.std.proofs.lemmas.Bool.Decides.{nat_tests}
 use Rattle.std.proofs.lemmas.Grind.{div_ceil_times}
 use Rattle.std.proofs.lemmas.Nat.{div-mul-add, mod-mul-add, div-add-mod', mod_below}
 use Rattle.std.proofs.Math.Nat.{mul-le-mul_left, mul-le-mul_right}
-use Rattle.cl_stim.specs.declared.phase.Phase.{Phase}
-use Rattle.cl_stim.specs.Phase.{IsPhase, since_turn}
+use Rattle.cl_stim.specs.{declared.phase.Phase.Phase, Phase.{IsPhase, since_turn}}
 use Rattle.cl_stim.proofs.TurnFacts.{multiples_ordered, period_some}
 use Rattle.cl_cycle.specs.Counts.{arrivals_from}
 use Rattle.cl_cycle.proofs.CountedTicks.{one_if, arriving, none_in_none, earlier}

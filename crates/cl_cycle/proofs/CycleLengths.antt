@@ -5,28 +5,14 @@ use Rattle.std.specs.Option.{option_to_list}
 use Rattle.std.proofs.lemmas.Nat.{mul-le}
 use Rattle.std.proofs.lemmas.List.Elements.{All-nil, All-cons, All-head}
 use Rattle.std.proofs.lemmas.List.Sums.{sum_by-cons}
-use Rattle.cl_model.specs.declared.limits.TheConstants.{MOST_TICKS}
-use Rattle.cl_model.specs.declared.model.SystemModel.{SystemModel}
-use Rattle.cl_model.specs.declared.stimulus.StimulusKind.{StimulusKind}
-use Rattle.cl_model.specs.declared.stimulus.StimulusKind.TheVariants.{Periodic, Sporadic, Burst}
-use Rattle.cl_model.specs.Ranges.{IsKindInRange}
-use Rattle.cl_model.specs.Timing.{IsKindOrdered}
-use Rattle.cl_model.specs.Validity.{IsValid}
+use Rattle.cl_model.specs.{declared.{limits.TheConstants.MOST_TICKS, model.SystemModel.SystemModel, stimulus.StimulusKind.{StimulusKind, TheVariants.{Periodic, Sporadic, Burst}}}, Ranges.IsKindInRange, Timing.IsKindOrdered, Validity.IsValid}
 use Rattle.cl_model.proofs.ValidTasks.{kind_in_range, kind_ordered}
-use Rattle.cl_runs.specs.TaskTiming.{timing_at}
-use Rattle.cl_runs.specs.Priorities.{tasks_above}
-use Rattle.cl_runs.specs.SystemOf.{system_of}
+use Rattle.cl_runs.specs.{TaskTiming.timing_at, Priorities.tasks_above, SystemOf.system_of}
 use Rattle.cl_runs.proofs.ModelSystem.{count_is, system_sound}
-use Rattle.cl_stim.specs.declared.phase.Phase.{Phase}
-use Rattle.cl_stim.specs.Phase.{IsPhaseInRange, phase_of, arrivals_in}
-use Rattle.cl_stim.specs.Multiples.{hyperperiod_of}
+use Rattle.cl_stim.specs.{declared.phase.Phase.Phase, Phase.{IsPhaseInRange, phase_of, arrivals_in}, Multiples.hyperperiod_of}
 use Rattle.cl_stim.proofs.Hyperperiods.{HasPeriod, Divides, hyperperiod_divided}
-use Rattle.cl_cycle.specs.declared.cycle.TheConstants.{MOST_IN_CYCLE}
-use Rattle.cl_cycle.specs.Counts.{each_moment, arrivals_of}
-use Rattle.cl_cycle.specs.Cycles.{phases_with, arrivals_together, by_period, gathered_above, cycle_of}
-use Rattle.cl_cycle.proofs.GatheredPhases.{none_together, one_together, ticks_by_arrivals}
-use Rattle.cl_cycle.proofs.GatheredNumbers.{pattern_is}
-use Rattle.cl_cycle.proofs.CycleMembers.{IsFixed, fold_keeps, in_phase_keeps, all_fixed, have_periods}
+use Rattle.cl_cycle.specs.{declared.cycle.TheConstants.MOST_IN_CYCLE, Counts.{each_moment, arrivals_of}, Cycles.{phases_with, arrivals_together, by_period, gathered_above, cycle_of}}
+use Rattle.cl_cycle.proofs.{GatheredPhases.{none_together, one_together, ticks_by_arrivals}, GatheredNumbers.pattern_is, CycleMembers.{IsFixed, fold_keeps, in_phase_keeps, all_fixed, have_periods}}
 
 -- the arrivals of a stimulus in range are in range
 arrivals_in_range : (kind : StimulusKind) → IsKindInRange kind → IsKindOrdered kind → IsPhaseInRange (arrivals_of kind)

@@ -11,19 +11,11 @@ use Rattle.std.proofs.lemmas.List.Elements.{All-nil, All-cons, All-head, All-tai
 use Rattle.std.proofs.lemmas.List.Folds.{Any-from_list_any}
 use Rattle.std.proofs.lemmas.List.FromFn.{length-range_with_len, get_or-range_with_len}
 use Rattle.std.proofs.Math.Nat.{one-dvd}
-use Rattle.cl_model.specs.declared.limits.TheConstants.{MOST_TICKS}
-use Rattle.cl_model.specs.declared.stimulus.StimulusKind.{StimulusKind}
-use Rattle.cl_model.specs.declared.stimulus.StimulusKind.TheVariants.{Periodic, Sporadic, Burst}
-use Rattle.cl_runs.specs.Pattern.{IsPattern}
-use Rattle.cl_runs.specs.TaskTiming.{System, IsSound, timing_at}
-use Rattle.cl_runs.specs.Priorities.{is_above, tasks_above}
-use Rattle.cl_stim.specs.declared.phase.Phase.{Phase}
-use Rattle.cl_stim.specs.Phase.{phase_of}
+use Rattle.cl_model.specs.declared.{limits.TheConstants.MOST_TICKS, stimulus.StimulusKind.{StimulusKind, TheVariants.{Periodic, Sporadic, Burst}}}
+use Rattle.cl_runs.specs.{Pattern.IsPattern, TaskTiming.{System, IsSound, timing_at}, Priorities.{is_above, tasks_above}}
+use Rattle.cl_stim.specs.{declared.phase.Phase.Phase, Phase.phase_of}
 use Rattle.cl_stim.proofs.Hyperperiods.{HasPeriod, Divides, hyperperiod_positive, hyperperiod_divided}
-use Rattle.cl_cycle.specs.declared.cycle.TheConstants.{MOST_IN_CYCLE, MOST_WORK}
-use Rattle.cl_cycle.specs.Counts.{each_moment, arrivals_of}
-use Rattle.cl_cycle.specs.Cycles.{phases_with, arrivals_together, is_of_period, by_period, joined_by, gathered_above, is_one_of, work_with, in_phase_above, cycle_of}
-use Rattle.cl_cycle.specs.Promises.{ComesRound}
+use Rattle.cl_cycle.specs.{declared.cycle.TheConstants.{MOST_IN_CYCLE, MOST_WORK}, Counts.{each_moment, arrivals_of}, Cycles.{phases_with, arrivals_together, is_of_period, by_period, joined_by, gathered_above, is_one_of, work_with, in_phase_above, cycle_of}, Promises.ComesRound}
 use Rattle.cl_cycle.proofs.GatheredSteps.{joins_with_few, stays_with_many}
 
 -- a task of the system whose arrivals are fixed

@@ -5,19 +5,12 @@ use Rattle.std.specs.List.{filter, range_with_len}
 use Rattle.std.proofs.lemmas.Bool.{eq-eqb, ne_eqb}
 use Rattle.std.proofs.lemmas.List.Elements.{All-more, All-filter}
 use Rattle.std.proofs.lemmas.List.FromFn.{length-range_with_len, get_or-range_with_len}
-use Rattle.cl_model.specs.declared.model.SystemModel.{SystemModel}
-use Rattle.cl_model.specs.declared.stimulus.StimulusKind.{StimulusKind}
-use Rattle.cl_model.specs.ByNumber.{task_at, core_of, stimulus_of, deadline_of}
+use Rattle.cl_model.specs.{declared.{model.SystemModel.SystemModel, stimulus.StimulusKind.StimulusKind}, ByNumber.{task_at, core_of, stimulus_of, deadline_of}}
 use Rattle.cl_model.proofs.CoreTasks.{below_known}
-use Rattle.cl_runs.specs.TaskTiming.{Timing, timing_at}
-use Rattle.cl_runs.specs.SystemOf.{timing_of, system_of}
-use Rattle.cl_runs.specs.Priorities.{is_above, tasks_above}
+use Rattle.cl_runs.specs.{TaskTiming.{Timing, timing_at}, SystemOf.{timing_of, system_of}, Priorities.{is_above, tasks_above}}
 use Rattle.cl_runs.proofs.ModelSystem.{timing_is, count_is}
-use Rattle.cl_stim.specs.declared.phase.Phase.{Phase}
-use Rattle.cl_stim.specs.Phase.{phase_of}
-use Rattle.cl_stim.specs.Releases.{most_releases}
-use Rattle.cl_cycle.specs.Cycles.{is_of_period, is_one_of, released_beside}
-use Rattle.cl_cycle.specs.Inner.Gathering.{tasks_beside, has_higher, phase_above, is_above_with, AreNoneBetween}
+use Rattle.cl_stim.specs.{declared.phase.Phase.Phase, Phase.phase_of, Releases.most_releases}
+use Rattle.cl_cycle.specs.{Cycles.{is_of_period, is_one_of, released_beside}, Inner.Gathering.{tasks_beside, has_higher, phase_above, is_above_with, AreNoneBetween}}
 use Rattle.cl_cycle.proofs.GatheredLists.{filters_agree, filter-both, sums_agree}
 
 -- ---- whether a phase above is of a period

@@ -6,21 +6,12 @@ use Rattle.std.proofs.lemmas.Bool.{eq-eqb}
 use Rattle.std.proofs.lemmas.Bool.Decides.{nat_tests}
 use Rattle.std.proofs.lemmas.List.Sums.{fold-append, length-filter, count_by-le-length}
 use Rattle.arrayvec.specs.ArrayVec.{array_vec_len}
-use Rattle.cl_model.specs.declared.limits.TheConstants.{MOST_TICKS, MOST_TASKS_OF_CORE}
-use Rattle.cl_model.specs.declared.model.SystemModel.{SystemModel}
-use Rattle.cl_model.specs.ByNumber.{core_of}
-use Rattle.cl_model.specs.Validity.{IsValid}
+use Rattle.cl_model.specs.{declared.{limits.TheConstants.{MOST_TICKS, MOST_TASKS_OF_CORE}, model.SystemModel.SystemModel}, ByNumber.core_of, Validity.IsValid}
 use Rattle.cl_model.proofs.CoreTasks.{few_tasks}
-use Rattle.cl_runs.specs.TaskTiming.{timing_at}
-use Rattle.cl_runs.specs.SystemOf.{system_of}
-use Rattle.cl_runs.specs.Priorities.{tasks_above}
-use Rattle.cl_stim.specs.declared.phase.Phase.{Phase}
-use Rattle.cl_stim.specs.Phase.{phase_of}
-use Rattle.cl_cycle.specs.declared.cycle.Cycle.{Cycle}
-use Rattle.cl_cycle.specs.Cycles.{by_period, joined_by, gathered_above, is_of_period}
-use Rattle.cl_cycle.specs.Inner.Gathering.{tasks_beside, phase_above, is_above_with, AreNoneBetween, IsNextPeriod, IsGathered}
-use Rattle.cl_cycle.proofs.GatheredLists.{filter_none, lengths_apart, flat_maps_agree, flat_map_beyond}
-use Rattle.cl_cycle.proofs.GatheredNumbers.{of_period_is}
+use Rattle.cl_runs.specs.{TaskTiming.timing_at, SystemOf.system_of, Priorities.tasks_above}
+use Rattle.cl_stim.specs.{declared.phase.Phase.Phase, Phase.phase_of}
+use Rattle.cl_cycle.specs.{declared.cycle.Cycle.Cycle, Cycles.{by_period, joined_by, gathered_above, is_of_period}, Inner.Gathering.{tasks_beside, phase_above, is_above_with, AreNoneBetween, IsNextPeriod, IsGathered}}
+use Rattle.cl_cycle.proofs.{GatheredLists.{filter_none, lengths_apart, flat_maps_agree, flat_map_beyond}, GatheredNumbers.of_period_is}
 
 -- ---- the order
 

@@ -9,14 +9,9 @@ use Rattle.std.proofs.lemmas.List.Sums.{sum_by-cons}
 use Rattle.std.proofs.Math.Nat.{div-mul_cancel, dvd_refl, one-dvd}
 use Rattle.cl_time.specs.Divisors.{IsLcm}
 use Rattle.cl_model.specs.declared.limits.TheConstants.{MOST_TICKS}
-use Rattle.cl_stim.specs.declared.phase.Phase.{Phase}
-use Rattle.cl_stim.specs.Phase.{IsPhaseInRange, arrivals_in}
-use Rattle.cl_stim.specs.Multiples.{common_multiple, hyperperiod_of}
-use Rattle.cl_stim.proofs.Multiples.{common_is_least}
-use Rattle.cl_stim.proofs.Hyperperiods.{HasPeriod, Divides, hyperperiod_positive, hyperperiod_divided}
-use Rattle.cl_cycle.specs.declared.cycle.TheConstants.{MOST_IN_CYCLE}
-use Rattle.cl_cycle.specs.Cycles.{arrivals_together}
-use Rattle.cl_cycle.specs.Inner.Gathering.{AreTogether}
+use Rattle.cl_stim.specs.{declared.phase.Phase.Phase, Phase.{IsPhaseInRange, arrivals_in}, Multiples.{common_multiple, hyperperiod_of}}
+use Rattle.cl_stim.proofs.{Multiples.common_is_least, Hyperperiods.{HasPeriod, Divides, hyperperiod_positive, hyperperiod_divided}}
+use Rattle.cl_cycle.specs.{declared.cycle.TheConstants.MOST_IN_CYCLE, Cycles.arrivals_together, Inner.Gathering.AreTogether}
 
 -- phases in range have periods
 pub have_periods : (phases : List Phase) → All IsPhaseInRange phases → All HasPeriod phases

@@ -4,13 +4,8 @@ use Rattle.std.specs.Prelude.{unwrap_or}
 use Rattle.std.proofs.lemmas.Bool.Decides.{nat_tests}
 use Rattle.std.proofs.lemmas.List.{reverse-append}
 use Rattle.cl_runs.specs.TaskTiming.{System, timing_at}
-use Rattle.cl_stim.specs.declared.phase.Phase.{Phase}
-use Rattle.cl_stim.specs.Phase.{phase_of}
-use Rattle.cl_cycle.specs.declared.cycle.Cycle.{Cycle}
-use Rattle.cl_cycle.specs.declared.cycle.TheConstants.{MOST_IN_CYCLE}
-use Rattle.cl_cycle.specs.Counts.{each_moment}
-use Rattle.cl_cycle.specs.Cycles.{phases_with, arrivals_together, joined_by}
-use Rattle.cl_cycle.specs.Inner.Gathering.{AreTogether, IsGathered}
+use Rattle.cl_stim.specs.{declared.phase.Phase.Phase, Phase.phase_of}
+use Rattle.cl_cycle.specs.{declared.cycle.{Cycle.Cycle, TheConstants.MOST_IN_CYCLE}, Counts.each_moment, Cycles.{phases_with, arrivals_together, joined_by}, Inner.Gathering.{AreTogether, IsGathered}}
 
 -- whether a task joins, by how many arrive with it
 pub joins_with_few : (system : System) (task : ℕ) (so_far : List ℕ) (other : ℕ)

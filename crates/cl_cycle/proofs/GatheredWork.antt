@@ -9,25 +9,11 @@ use Rattle.std.proofs.lemmas.List.{append-nil, reverse-append}
 use Rattle.std.proofs.lemmas.List.Elements.{filter_more, filter_agree}
 use Rattle.std.proofs.lemmas.List.Folds.{list_any-append}
 use Rattle.std.proofs.lemmas.List.Sums.{sum_by_push}
-use Rattle.cl_model.specs.declared.limits.TheConstants.{MOST_TICKS}
-use Rattle.cl_model.specs.declared.model.SystemModel.{SystemModel}
-use Rattle.cl_model.specs.declared.stimulus.StimulusKind.{StimulusKind}
-use Rattle.cl_model.specs.declared.stimulus.StimulusKind.TheVariants.{Periodic, Sporadic, Burst}
-use Rattle.cl_model.specs.ByNumber.{stimulus_of, deadline_of}
-use Rattle.cl_model.specs.Ranges.{IsKindInRange}
-use Rattle.cl_model.specs.Timing.{least_distance}
-use Rattle.cl_model.specs.Validity.{IsValid}
+use Rattle.cl_model.specs.{declared.{limits.TheConstants.MOST_TICKS, model.SystemModel.SystemModel, stimulus.StimulusKind.{StimulusKind, TheVariants.{Periodic, Sporadic, Burst}}}, ByNumber.{stimulus_of, deadline_of}, Ranges.IsKindInRange, Timing.least_distance, Validity.IsValid}
 use Rattle.cl_model.proofs.ValidTasks.{kind_in_range, early_enough}
-use Rattle.cl_runs.specs.TaskTiming.{System}
-use Rattle.cl_runs.specs.SystemOf.{system_of}
-use Rattle.cl_stim.specs.AnyStimulus.{kind_of, as_stimulus}
-use Rattle.cl_stim.specs.Releases.{most_releases}
-use Rattle.cl_stim.specs.Multiples.{hyperperiod_of}
-use Rattle.cl_cycle.specs.declared.cycle.Cycle.{Cycle}
-use Rattle.cl_cycle.specs.declared.cycle.TheConstants.{MOST_WORK}
-use Rattle.cl_cycle.specs.Cycles.{phases_with, arrivals_together, is_one_of, gathered_above, work_with, in_phase_above, cycle_of}
-use Rattle.cl_cycle.specs.Promises.{IsCycleOf}
-use Rattle.cl_cycle.specs.Inner.Gathering.{tasks_beside, has_higher, IsGathered}
+use Rattle.cl_runs.specs.{TaskTiming.System, SystemOf.system_of}
+use Rattle.cl_stim.specs.{AnyStimulus.{kind_of, as_stimulus}, Releases.most_releases, Multiples.hyperperiod_of}
+use Rattle.cl_cycle.specs.{declared.cycle.{Cycle.Cycle, TheConstants.MOST_WORK}, Cycles.{phases_with, arrivals_together, is_one_of, gathered_above, work_with, in_phase_above, cycle_of}, Promises.IsCycleOf, Inner.Gathering.{tasks_beside, has_higher, IsGathered}}
 use Rattle.cl_cycle.proofs.GatheredNumbers.{released_is}
 
 -- ---- stimuli

@@ -5,15 +5,9 @@ use Rattle.std.specs.Prelude.{◌*◌, if◌then◌else◌, not, nat_le, nat_lt,
 use Rattle.std.specs.List.{filter, fold, flat_map, range_with_len}
 use Rattle.std.specs.Option.{option_to_list}
 use Rattle.cl_model.specs.declared.limits.TheConstants.{MOST_TICKS}
-use Rattle.cl_runs.specs.TaskTiming.{System}
-use Rattle.cl_runs.specs.Priorities.{tasks_above}
-use Rattle.cl_stim.specs.Multiples.{hyperperiod_of}
-use Rattle.cl_stim.specs.Phase.{phase_of}
-use Rattle.cl_stim.specs.Releases.{most_releases}
-use Rattle.cl_cycle.specs.declared.cycle.TheConstants.{MOST_IN_CYCLE, MOST_WORK}
-use Rattle.cl_cycle.specs.Counts.{arrivals_of}
-use Rattle.cl_cycle.specs.Cycles.{phases_with, arrivals_together, is_of_period, by_period, joined_by, gathered_above, is_one_of, work_with, in_phase_above, cycle_of}
-use Rattle.cl_cycle.specs.DifferingRunnables.{DifferInRunnables}
+use Rattle.cl_runs.specs.{TaskTiming.System, Priorities.tasks_above}
+use Rattle.cl_stim.specs.{Multiples.hyperperiod_of, Phase.phase_of, Releases.most_releases}
+use Rattle.cl_cycle.specs.{declared.cycle.TheConstants.{MOST_IN_CYCLE, MOST_WORK}, Counts.arrivals_of, Cycles.{phases_with, arrivals_together, is_of_period, by_period, joined_by, gathered_above, is_one_of, work_with, in_phase_above, cycle_of}, DifferingRunnables.DifferInRunnables}
 
 module _ (one other : System) (alike : DifferInRunnables one other) (task : ℕ) where
   pub same_above : tasks_above one task ≡ tasks_above other task

@@ -2,8 +2,7 @@
 use Rattle.std.specs.Prelude.{ℕ, ℤ, pos, ◌+ℤ◌, count_by, unwrap_or}
 use Rattle.std.specs.List.{range_with_len}
 use Rattle.cl_model.specs.declared.stimulus.StimulusKind.{StimulusKind}
-use Rattle.cl_stim.specs.declared.phase.Phase.{Phase}
-use Rattle.cl_stim.specs.Phase.{phase_of, arrives_at}
+use Rattle.cl_stim.specs.{declared.phase.Phase.Phase, Phase.{phase_of, arrives_at}}
 
 -- the number of arrivals in the `width` ticks from a moment on
 unfoldable pub arrivals_from : Phase → (from : ℤ) → (width : ℕ) → ℕ

@@ -3,14 +3,9 @@
 use Rattle.std.specs.Prelude.{ℕ, ◌*◌, ◌==◌, Bool, false, not, nat_le, if◌then◌else◌, List, [], ◌∷◌, ◌++◌, map, filter, fold, flat_map, sum_by, Option, Some, None, option_to_list}
 use Rattle.std.specs.List.{list_any, range_with_len}
 use Rattle.cl_model.specs.declared.limits.TheConstants.{MOST_TICKS}
-use Rattle.cl_runs.specs.TaskTiming.{System, timing_at}
-use Rattle.cl_runs.specs.Priorities.{tasks_above}
-use Rattle.cl_stim.specs.declared.phase.Phase.{Phase}
-use Rattle.cl_stim.specs.Multiples.{hyperperiod_of}
-use Rattle.cl_stim.specs.Phase.{phase_of, arrivals_in}
-use Rattle.cl_stim.specs.Releases.{most_releases}
-use Rattle.cl_cycle.specs.declared.cycle.TheConstants.{MOST_IN_CYCLE, MOST_WORK}
-use Rattle.cl_cycle.specs.Counts.{arrivals_of}
+use Rattle.cl_runs.specs.{TaskTiming.{System, timing_at}, Priorities.tasks_above}
+use Rattle.cl_stim.specs.{declared.phase.Phase.Phase, Multiples.hyperperiod_of, Phase.{phase_of, arrivals_in}, Releases.most_releases}
+use Rattle.cl_cycle.specs.{declared.cycle.TheConstants.{MOST_IN_CYCLE, MOST_WORK}, Counts.arrivals_of}
 
 -- ---- phases that come round together
 

@@ -2,10 +2,8 @@
 use Rattle.std.specs.Prelude.{◌≡◌, ℕ, Some}
 use Rattle.std.specs.Int.{◌∣◌}
 use Rattle.cl_runs.specs.TaskTiming.{System, timing_at}
-use Rattle.cl_stim.specs.declared.phase.Phase.{Phase}
-use Rattle.cl_stim.specs.Phase.{phase_of}
-use Rattle.cl_cycle.specs.declared.cycle.Cycle.{Cycle}
-use Rattle.cl_cycle.specs.Cycles.{is_one_of, in_phase_above, cycle_of}
+use Rattle.cl_stim.specs.{declared.phase.Phase.Phase, Phase.phase_of}
+use Rattle.cl_cycle.specs.{declared.cycle.Cycle.Cycle, Cycles.{is_one_of, in_phase_above, cycle_of}}
 
 -- the tasks in phase are those that stand in phase above the task, and the ticks are its cycle
 pub record IsCycleOf (system : System) (task : ℕ) (cycle : Cycle) : Type 0 where

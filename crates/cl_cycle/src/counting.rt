@@ -1,11 +1,8 @@
 //! How many jobs of a phase arrive from a moment on. Times are in ticks, and may lie before 0.
 ghost use Rattle.std.specs.Prelude.{◌≡◌, ◌≤◌, ◌+◌, ◌*◌, ◌/◌, ◌%◌, min};
 ghost use Rattle.std.specs.Int.{div_ceil};
-ghost use Rattle.cl_model.specs.declared.limits.TheConstants.{MOST_TICKS};
-ghost use Rattle.cl_model.specs.Ranges.{IsKindInRange};
-ghost use Rattle.cl_model.specs.Timing.{IsKindOrdered};
-ghost use Rattle.cl_stim.specs.Phase.{IsPhaseInRange, IsMoment};
-ghost use Rattle.cl_stim.specs.declared.arrivals.TheConstants.{MOST_WIDTH};
+ghost use Rattle.cl_model.specs.{declared.limits.TheConstants.MOST_TICKS, Ranges.IsKindInRange, Timing.IsKindOrdered};
+ghost use Rattle.cl_stim.specs.{Phase.{IsPhaseInRange, IsMoment}, declared.arrivals.TheConstants.MOST_WIDTH};
 ghost use Rattle.cl_cycle.specs.Counts.{arrivals_from, arrivals_of};
 
 use cl_model::StimulusKind;

@@ -2,16 +2,11 @@
 ghost use Rattle.std.specs.Prelude.{◌≡◌, ℕ, ◌+◌, ◌<◌, ◌≤◌, nat_le, List, [], ◌∷◌, length, filter, fold, Some, IfSome, IfNone};
 ghost use Rattle.std.specs.Option.{option_to_list};
 ghost use Rattle.arrayvec.specs.ArrayVec.{array_vec_len};
-ghost use Rattle.cl_model.specs.declared.limits.TheConstants.{MOST_TICKS, MOST_TASKS_OF_CORE};
-ghost use Rattle.cl_model.specs.Validity.{IsValid};
-ghost use Rattle.cl_runs.specs.SystemOf.{system_of};
-ghost use Rattle.cl_runs.specs.TaskTiming.{System, timing_at};
-ghost use Rattle.cl_stim.specs.declared.phase.Phase.{Phase};
-ghost use Rattle.cl_stim.specs.Phase.{IsPhaseInRange, phase_of};
-ghost use Rattle.cl_cycle.specs.declared.cycle.TheConstants.{MOST_IN_CYCLE, MOST_WORK};
-ghost use Rattle.cl_cycle.specs.Cycles.{arrivals_together, joined_by, gathered_above, is_one_of, work_with};
-ghost use Rattle.cl_cycle.specs.Promises.{IsCycleOf};
-ghost use Rattle.cl_cycle.specs.Inner.Gathering.{has_higher, phase_above, is_above_with, tasks_beside, AreNoneBetween, IsNextPeriod, AreTogether, IsGathered};
+ghost use Rattle.cl_model.specs.{declared.limits.TheConstants.{MOST_TICKS, MOST_TASKS_OF_CORE}, Validity.IsValid};
+ghost use Rattle.cl_runs.specs.{SystemOf.system_of, TaskTiming.{System, timing_at}};
+ghost use Rattle.cl_stim.specs.{declared.phase.Phase.Phase, Phase.{IsPhaseInRange, phase_of}};
+ghost use Rattle.cl_cycle.specs.{declared.cycle.TheConstants.{MOST_IN_CYCLE, MOST_WORK}, Cycles.{arrivals_together, joined_by, gathered_above, is_one_of, work_with}, Promises.IsCycleOf, Inner.Gathering.{has_higher, phase_above, is_above_with, tasks_beside, AreNoneBetween, IsNextPeriod}};
+ghost use Rattle.cl_cycle.specs.Inner.Gathering.{AreTogether, IsGathered};
 
 use arrayvec::ArrayVec;
 use cl_model::{MOST_TASKS_OF_CORE, MOST_TICKS, ValidModel};

@@ -1,17 +1,12 @@
 -- What the lines of a text print.
 use Rattle.std.proofs.Common.{◌≡◌, ℕ, ◌<◌, Option, List, length, get_or, ap, ◌∙◌, subst}
 use Rattle.std.proofs.lemmas.List.{get_or_default}
-use Rattle.cl_model.specs.declared.model.SystemModel.{SystemModel}
-use Rattle.cl_model.specs.ByNumber.{chain_at}
-use Rattle.cl_model.specs.Groups.{groups_of}
-use Rattle.cl_model.specs.Validity.{IsValid}
+use Rattle.cl_model.specs.{declared.model.SystemModel.SystemModel, ByNumber.chain_at, Groups.groups_of, Validity.IsValid}
 use Rattle.cl_runs.specs.SystemOf.{system_of}
 use Rattle.cl_bound.specs.Bounds.{bounds_of}
 use Rattle.cl_analyse.specs.ChainAnswers.{chain_answer, chain_answer_of}
 use Rattle.cl_analyse.proofs.SafeFindings.{answer_of_chain, named_task_within}
-use Rattle.cl_cut.specs.declared.answer.CutAnswer.{CutAnswer}
-use Rattle.cl_cut.specs.declared.answer.CutAnswer.TheVariants.{Late}
-use Rattle.cl_cut.specs.CutAnswers.{cut_answer_at, IsCutAnswer, AreCutAnswers}
+use Rattle.cl_cut.specs.{declared.answer.CutAnswer.{CutAnswer, TheVariants.Late}, CutAnswers.{cut_answer_at, IsCutAnswer, AreCutAnswers}}
 
 -- ---- cuts
 

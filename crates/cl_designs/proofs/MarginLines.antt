@@ -5,15 +5,8 @@ use Rattle.std.proofs.lemmas.List.{append_assoc, get_or_default}
 use Rattle.std.proofs.lemmas.Result.{IfOk-weaker}
 use Rattle.cl_time.specs.declared.no_memory.NoMemory.{NoMemory}
 use Rattle.cl_model.specs.declared.model.SystemModel.{SystemModel}
-use Rattle.cl_tight.specs.declared.findings.TightFindings.{TightFindings}
-use Rattle.cl_tight.specs.TightFindings.{tight_findings_of}
-use Rattle.cl_margin.specs.declared.answer.Breaks.{Breaks}
-use Rattle.cl_margin.specs.declared.answer.Breaks.TheVariants.{Task, Requirement, Limit}
-use Rattle.cl_margin.specs.declared.answer.Margin.{Margin}
-use Rattle.cl_margin.specs.declared.answer.Margins.{Margins}
-use Rattle.cl_margin.specs.declared.whose.Whose.{Whose}
-use Rattle.cl_margin.specs.declared.whose.Whose.TheVariants.{OneTask}
-use Rattle.cl_margin.specs.Margins.{BreaksAfter, IsMargin, no_margin, margin_at, AreMargins}
+use Rattle.cl_tight.specs.{declared.findings.TightFindings.TightFindings, TightFindings.tight_findings_of}
+use Rattle.cl_margin.specs.{declared.{answer.{Breaks.{Breaks, TheVariants.{Task, Requirement, Limit}}, Margin.Margin, Margins.Margins}, whose.Whose.{Whose, TheVariants.OneTask}}, Margins.{BreaksAfter, IsMargin, no_margin, margin_at, AreMargins}}
 use Rattle.cl_designs.specs.Margins.{IsBreakOf, margin_text, IsMarginTextOf}
 
 -- pieces that were put one behind the other

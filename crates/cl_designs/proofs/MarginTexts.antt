@@ -5,25 +5,16 @@ use Rattle.std.proofs.lemmas.Bool.{cases_lt, and_parts}
 use Rattle.std.proofs.lemmas.List.{ext_get_or, get_or_default}
 use Rattle.std.proofs.lemmas.List.FromFn.{length-map-range_with_len, get_or-map-range_with_len}
 use Rattle.std.proofs.lemmas.List.Sums.{AllPass-from_list_all, list_all-from_AllPass}
-use Rattle.cl_model.specs.declared.model.SystemModel.{SystemModel}
-use Rattle.cl_model.specs.Validity.{IsValid}
-use Rattle.cl_bound.specs.declared.answer.TaskAnswer.{TaskAnswer}
+use Rattle.cl_model.specs.{declared.model.SystemModel.SystemModel, Validity.IsValid}
+use Rattle.cl_bound.specs.{declared.answer.TaskAnswer.TaskAnswer, Answers.is_late}
 use Rattle.cl_bound.specs.declared.answer.TaskAnswer.TheVariants as answer
-use Rattle.cl_bound.specs.Answers.{is_late}
 use Rattle.cl_analyse.specs.declared.findings.Verdict.TheVariants as verdict
 use Rattle.cl_analyse.specs.Verdicts.{is_met}
-use Rattle.cl_tight.specs.declared.findings.TightFindings.{TightFindings}
-use Rattle.cl_tight.specs.TightFindings.{tight_findings_of, is_verified}
+use Rattle.cl_tight.specs.{declared.findings.TightFindings.TightFindings, TightFindings.{tight_findings_of, is_verified}}
 use Rattle.cl_tight.proofs.TightLaws.{verified_in_time}
 use Rattle.cl_report.proofs.TightLines.{tight_tasks_found, tight_verdicts_found}
-use Rattle.cl_margin.specs.declared.answer.Margin.{Margin}
-use Rattle.cl_margin.specs.declared.answer.Margins.{Margins}
-use Rattle.cl_margin.specs.declared.whose.Whose.{Whose}
-use Rattle.cl_margin.specs.declared.whose.Whose.TheVariants.{EveryTask, OneTask}
-use Rattle.cl_margin.specs.Grown.{percent_of, grown_task, grown_by, grown}
-use Rattle.cl_margin.specs.Margins.{KeepsMet, IsMargin, no_margin, margin_at, AreMargins}
-use Rattle.cl_margin.proofs.GrownValid.{grown_valid}
-use Rattle.cl_margin.proofs.OneMargin.{some_margin, only_one}
+use Rattle.cl_margin.specs.{declared.{answer.{Margin.Margin, Margins.Margins}, whose.Whose.{Whose, TheVariants.{EveryTask, OneTask}}}, Grown.{percent_of, grown_task, grown_by, grown}, Margins.{KeepsMet, IsMargin, no_margin, margin_at, AreMargins}}
+use Rattle.cl_margin.proofs.{GrownValid.grown_valid, OneMargin.{some_margin, only_one}}
 use Rattle.cl_designs.specs.Margins.{margin_text, IsMarginTextOf, StaysInTime, IsSafeMarginText}
 
 -- ---- there is one

@@ -1,13 +1,9 @@
 -- A valid model has a text of its cuts, of its orders and of its headroom, and but one of each.
 use Rattle.std.proofs.Common.{◌≡◌, ℕ, List, refl, sym, ap, ◌∙◌}
-use Rattle.cl_model.specs.declared.model.SystemModel.{SystemModel}
-use Rattle.cl_model.specs.Validity.{IsValid}
+use Rattle.cl_model.specs.{declared.model.SystemModel.SystemModel, Validity.IsValid}
 use Rattle.cl_cut.proofs.OneCutAnswer.{some_answers, one_answers}
-use Rattle.cl_tune.proofs.OneOrder.{some_order_answer, one_order_answer}
-use Rattle.cl_tune.proofs.OneHeadroom.{some_headroom, one_headroom}
-use Rattle.cl_designs.specs.Cuts.{cut_text, IsCutTextOf}
-use Rattle.cl_designs.specs.Orders.{order_text, IsOrderTextOf}
-use Rattle.cl_designs.specs.Headroom.{headroom_text, IsHeadroomTextOf}
+use Rattle.cl_tune.proofs.{OneOrder.{some_order_answer, one_order_answer}, OneHeadroom.{some_headroom, one_headroom}}
+use Rattle.cl_designs.specs.{Cuts.{cut_text, IsCutTextOf}, Orders.{order_text, IsOrderTextOf}, Headroom.{headroom_text, IsHeadroomTextOf}}
 
 pub some_cut_text : (model : SystemModel) → IsValid model → (text : List ℕ) × IsCutTextOf model text
 some_cut_text model valid =

@@ -1,17 +1,11 @@
 -- What the texts of orders and of headroom promise of every legal run.
 use Rattle.std.proofs.Common.{ℕ, List, Option, Some, None}
 use Rattle.std.specs.Prelude.{IfSome}
-use Rattle.cl_model.specs.declared.model.SystemModel.{SystemModel}
-use Rattle.cl_model.specs.Validity.{IsValid}
+use Rattle.cl_model.specs.{declared.model.SystemModel.SystemModel, Validity.IsValid}
 use Rattle.cl_runs.specs.Requirements.{IsInTime}
-use Rattle.cl_tune.specs.declared.answer.OrderAnswer.{OrderAnswer}
-use Rattle.cl_tune.specs.declared.answer.OrderAnswer.TheVariants.{Order, NoOrder}
-use Rattle.cl_tune.specs.BestOrders.{IsOrderAnswer}
-use Rattle.cl_tune.specs.Headroom.{IsHeadroom}
-use Rattle.cl_tune.specs.Scaled.{scaled}
+use Rattle.cl_tune.specs.{declared.answer.OrderAnswer.{OrderAnswer, TheVariants.{Order, NoOrder}}, BestOrders.IsOrderAnswer, Headroom.IsHeadroom, Scaled.scaled}
 use Rattle.cl_tune.proofs.KeptInTime.{reordered_in_time, kept_in_time}
-use Rattle.cl_designs.specs.Orders.{IsOrderTextOf, OrderIsSafe, IsSafeOrderText}
-use Rattle.cl_designs.specs.Headroom.{IsHeadroomTextOf, IsSafeHeadroomText}
+use Rattle.cl_designs.specs.{Orders.{IsOrderTextOf, OrderIsSafe, IsSafeOrderText}, Headroom.{IsHeadroomTextOf, IsSafeHeadroomText}}
 
 module _ (model : SystemModel) (valid : IsValid model) where
   safe_order : (answer : OrderAnswer) → IsOrderAnswer model answer → OrderIsSafe model answer

@@ -2,11 +2,8 @@
 use Rattle.std.specs.Prelude.{◌≡◌, ℕ, List, ◌++◌, length, codes, decimal}
 use Rattle.std.specs.List.{flat_map, range_with_len}
 use Rattle.cl_text.specs.Line.{line}
-use Rattle.cl_model.specs.declared.model.SystemModel.{SystemModel}
-use Rattle.cl_model.specs.ByNumber.{task_at, chain_at}
-use Rattle.cl_cut.specs.declared.answer.CutAnswer.{CutAnswer}
-use Rattle.cl_cut.specs.declared.answer.CutAnswer.TheVariants.{Cut, Late}
-use Rattle.cl_cut.specs.CutAnswers.{cut_answer_at, AreCutAnswers}
+use Rattle.cl_model.specs.{declared.model.SystemModel.SystemModel, ByNumber.{task_at, chain_at}}
+use Rattle.cl_cut.specs.{declared.answer.CutAnswer.{CutAnswer, TheVariants.{Cut, Late}}, CutAnswers.{cut_answer_at, AreCutAnswers}}
 
 -- the number of the first group of a piece, behind a blank
 abbrev pub piece_words : (first : ℕ) → List ℕ

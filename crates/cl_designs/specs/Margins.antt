@@ -3,19 +3,10 @@
 use Rattle.std.specs.Prelude.{◌≡◌, ℕ, ◌<◌, true, List, [], ◌++◌, length, codes, decimal, Option, Some, None, if◌then◌else◌}
 use Rattle.std.specs.List.{flat_map, range_with_len}
 use Rattle.cl_text.specs.Line.{line}
-use Rattle.cl_model.specs.declared.model.SystemModel.{SystemModel}
-use Rattle.cl_model.specs.ByNumber.{task_at, time_of}
+use Rattle.cl_model.specs.{declared.model.SystemModel.SystemModel, ByNumber.{task_at, time_of}}
 use Rattle.cl_runs.specs.Requirements.{requirement_at, IsInTime}
-use Rattle.cl_tight.specs.declared.findings.TightFindings.{TightFindings}
-use Rattle.cl_tight.specs.TightFindings.{tight_findings_of, is_verified}
-use Rattle.cl_margin.specs.declared.answer.Breaks.{Breaks}
-use Rattle.cl_margin.specs.declared.answer.Breaks.TheVariants.{Task, Requirement, Limit}
-use Rattle.cl_margin.specs.declared.answer.Margin.{Margin}
-use Rattle.cl_margin.specs.declared.answer.Margins.{Margins}
-use Rattle.cl_margin.specs.declared.whose.Whose.{Whose}
-use Rattle.cl_margin.specs.declared.whose.Whose.TheVariants.{EveryTask, OneTask}
-use Rattle.cl_margin.specs.Grown.{grown, grown_time}
-use Rattle.cl_margin.specs.Margins.{is_met_task, is_met_requirement, margin_at, AreMargins}
+use Rattle.cl_tight.specs.{declared.findings.TightFindings.TightFindings, TightFindings.{tight_findings_of, is_verified}}
+use Rattle.cl_margin.specs.{declared.{answer.{Breaks.{Breaks, TheVariants.{Task, Requirement, Limit}}, Margin.Margin, Margins.Margins}, whose.Whose.{Whose, TheVariants.{EveryTask, OneTask}}}, Grown.{grown, grown_time}, Margins.{is_met_task, is_met_requirement, margin_at, AreMargins}}
 
 -- the name of the task of a number, and of the requirement of a number
 abbrev pub name_of_task : SystemModel → (task : ℕ) → List ℕ

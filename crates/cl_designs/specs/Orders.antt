@@ -2,14 +2,9 @@
 use Rattle.std.specs.Prelude.{◌≡◌, ℕ, List, [], ◌++◌, length, slice_index, slice_index_or, codes, decimal}
 use Rattle.std.specs.List.{flat_map, range_with_len}
 use Rattle.cl_text.specs.Line.{line}
-use Rattle.cl_model.specs.declared.model.SystemModel.{SystemModel}
-use Rattle.cl_model.specs.ByNumber.{task_at}
-use Rattle.cl_model.specs.Named.{core_names}
+use Rattle.cl_model.specs.{declared.model.SystemModel.SystemModel, ByNumber.task_at, Named.core_names}
 use Rattle.cl_runs.specs.Requirements.{MeetsDeadlines}
-use Rattle.cl_tune.specs.declared.answer.OrderAnswer.{OrderAnswer}
-use Rattle.cl_tune.specs.declared.answer.OrderAnswer.TheVariants.{Order, NoOrder}
-use Rattle.cl_tune.specs.BestOrders.{IsOrderAnswer}
-use Rattle.cl_tune.specs.Priorities.{with_priorities}
+use Rattle.cl_tune.specs.{declared.answer.OrderAnswer.{OrderAnswer, TheVariants.{Order, NoOrder}}, BestOrders.IsOrderAnswer, Priorities.with_priorities}
 
 -- the line of a task
 unfoldable pub priority_line : SystemModel → (priorities : List ℕ) → (task : ℕ) → List ℕ

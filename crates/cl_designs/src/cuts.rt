@@ -1,8 +1,7 @@
 //! The text of the best cuts of all chains. Times are in ticks.
 ghost use Rattle.std.specs.Prelude.{◌≡◌, ℕ, ◌<◌, ◌++◌, length, OnOk, IfOk};
 ghost use Rattle.std.specs.List.{flat_map, range_with_len};
-ghost use Rattle.cl_cut.specs.declared.answer.CutAnswer.TheVariants.{Late};
-ghost use Rattle.cl_cut.specs.CutAnswers.{AreCutAnswers};
+ghost use Rattle.cl_cut.specs.{declared.answer.CutAnswer.TheVariants.Late, CutAnswers.AreCutAnswers};
 ghost use Rattle.cl_designs.specs.Cuts.{piece_words, pieces_words, bound_words, cut_words, cut_line, cut_text, IsCutTextOf};
 
 use cl_analyse::analyse;

@@ -1,12 +1,8 @@
 //! The texts of the best cuts, the best orders, the headroom and the margins of a model are unique,
 //! and what the latter three promise of every legal run.
 ghost use Rattle.std.specs.Prelude.{◌≡◌, ℕ, List};
-ghost use Rattle.cl_model.specs.declared.model.SystemModel.{SystemModel};
-ghost use Rattle.cl_model.specs.Validity.{IsValid};
-ghost use Rattle.cl_designs.specs.Cuts.{IsCutTextOf};
-ghost use Rattle.cl_designs.specs.Headroom.{IsHeadroomTextOf, IsSafeHeadroomText};
-ghost use Rattle.cl_designs.specs.Margins.{IsMarginTextOf, IsSafeMarginText};
-ghost use Rattle.cl_designs.specs.Orders.{IsOrderTextOf, IsSafeOrderText};
+ghost use Rattle.cl_model.specs.{declared.model.SystemModel.SystemModel, Validity.IsValid};
+ghost use Rattle.cl_designs.specs.{Cuts.IsCutTextOf, Headroom.{IsHeadroomTextOf, IsSafeHeadroomText}, Margins.{IsMarginTextOf, IsSafeMarginText}, Orders.{IsOrderTextOf, IsSafeOrderText}};
 
 /// A valid model has a text of its best cuts, and each model has at most one.
 pub fn cut_texts_are_unique()

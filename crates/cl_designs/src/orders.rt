@@ -1,7 +1,6 @@
 //! The text of the best orders of the priorities.
 ghost use Rattle.std.specs.Prelude.{◌≡◌, ◌<◌, ◌++◌, length, OnOk, IfOk};
-ghost use Rattle.cl_tune.specs.declared.answer.OrderAnswer.TheVariants.{Order};
-ghost use Rattle.cl_tune.specs.BestOrders.{IsOrderAnswer};
+ghost use Rattle.cl_tune.specs.{declared.answer.OrderAnswer.TheVariants.Order, BestOrders.IsOrderAnswer};
 ghost use Rattle.cl_designs.specs.Orders.{priority_line, core_name, none_line, order_lines, order_text, IsOrderTextOf};
 
 use cl_model::ValidModel;

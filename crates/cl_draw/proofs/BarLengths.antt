@@ -5,42 +5,17 @@ use Rattle.std.specs.List.{range_with_len}
 use Rattle.std.proofs.lemmas.List.{get_or_default}
 use Rattle.std.proofs.lemmas.List.Elements.{All-nil, All-cons, All-head, All-tail, All-map, All-filter}
 use Rattle.std.proofs.lemmas.List.FromFn.{length-range_with_len, get_or-range_with_len}
-use Rattle.cl_model.specs.declared.limits.TheConstants.{MOST_TICKS}
-use Rattle.cl_model.specs.declared.model.SystemModel.{SystemModel}
-use Rattle.cl_model.specs.AreNamed.{AreNamed}
-use Rattle.cl_model.specs.ByNumber.{task_at, deadline_of, stimulus_of}
+use Rattle.cl_model.specs.{declared.{limits.TheConstants.MOST_TICKS, model.SystemModel.SystemModel}, AreNamed.AreNamed, ByNumber.{task_at, deadline_of, stimulus_of}}
 use Rattle.cl_model.proofs.ValidTasks.{early_enough, kind_in_range}
-use Rattle.cl_runs.specs.Run.{Run, jobs_of}
-use Rattle.cl_runs.specs.Moments.{JobFinishes}
-use Rattle.cl_runs.specs.TaskTiming.{IsSound}
-use Rattle.cl_runs.specs.SystemOf.{system_of}
-use Rattle.cl_runs.proofs.ModelSystem.{count_is, system_sound}
-use Rattle.cl_runs.proofs.RunArrivals.{arrives_below}
+use Rattle.cl_runs.specs.{Run.{Run, jobs_of}, Moments.JobFinishes, TaskTiming.IsSound, SystemOf.system_of}
+use Rattle.cl_runs.proofs.{ModelSystem.{count_is, system_sound}, RunArrivals.arrives_below}
 use Rattle.cl_check.specs.JobMoments.{IsMomentOf}
-use Rattle.cl_picture.specs.declared.window.Window.{Window}
-use Rattle.cl_picture.specs.declared.item.Item.{Item}
-use Rattle.cl_picture.specs.declared.item.Bar.{Bar}
-use Rattle.cl_picture.specs.declared.item.End.{End}
-use Rattle.cl_picture.specs.declared.item.Rest.{Rest}
+use Rattle.cl_picture.specs.{declared.{window.Window.Window, item.{Item.Item, Bar.Bar, End.End, Rest.Rest}}, Bars.{counts, bar_of, joined_bar, bars_from}, Pieces.Piece, Shown.LieSideBySide, Window.high_of}
 use Rattle.cl_picture.specs.declared.item.Rest.TheVariants as rest
-use Rattle.cl_picture.specs.Bars.{counts, bar_of, joined_bar, bars_from}
-use Rattle.cl_picture.specs.Pieces.{Piece}
-use Rattle.cl_picture.specs.Shown.{LieSideBySide}
-use Rattle.cl_picture.specs.Window.{high_of}
-use Rattle.cl_picture.proofs.BarSides.{choose, pairs_head, pairs_tail}
-use Rattle.cl_picture.proofs.Units.{shares}
-use Rattle.cl_picture.proofs.TextLengths.{IsWithin, HasDigits, digits, none, wider, fixed, number, name, both}
-use Rattle.cl_draw.specs.declared.parts.Part.{Part}
-use Rattle.cl_draw.specs.declared.rows.Row.{Row}
-use Rattle.cl_draw.specs.Items.{is_whole, part_kind, part_item, band, bands}
-use Rattle.cl_draw.specs.Parts.{due_at, no_part, part_at, AreParts, AreFinishes}
-use Rattle.cl_draw.specs.Picture.{window_between}
-use Rattle.cl_draw.specs.RowLines.{finish_piece, rest_pieces, words_pieces, bar_head, bar_line}
-use Rattle.cl_draw.specs.Rows.{IsRowOf}
+use Rattle.cl_picture.proofs.{BarSides.{choose, pairs_head, pairs_tail}, Units.shares, TextLengths.{IsWithin, HasDigits, digits, none, wider, fixed, number, name, both}}
+use Rattle.cl_draw.specs.{declared.{parts.Part.Part, rows.Row.Row}, Items.{is_whole, part_kind, part_item, band, bands}, Parts.{due_at, no_part, part_at, AreParts, AreFinishes}, Picture.window_between, RowLines.{finish_piece, rest_pieces, words_pieces, bar_head, bar_line}, Rows.IsRowOf}
 use Rattle.cl_draw.specs.Inner.TaskRuns.{IsTaskRun}
-use Rattle.cl_draw.proofs.ItemFacts.{least_few}
-use Rattle.cl_draw.proofs.RowSides.{passing_all}
-use Rattle.cl_draw.proofs.SmallNumbers.{task_short, runnable_short, job_below}
+use Rattle.cl_draw.proofs.{ItemFacts.least_few, RowSides.passing_all, SmallNumbers.{task_short, runnable_short, job_below}}
 
 -- ---- how many
 

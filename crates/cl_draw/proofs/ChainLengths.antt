@@ -4,32 +4,14 @@ use Rattle.std.specs.Prelude.{All, codes, max, nat_lt, nat_le, slice_index, ◌=
 use Rattle.std.specs.List.{range_with_len}
 use Rattle.std.proofs.lemmas.List.Elements.{All-from_get_or}
 use Rattle.std.proofs.lemmas.List.FromFn.{length-range_with_len, get_or-range_with_len}
-use Rattle.cl_model.specs.declared.model.SystemModel.{SystemModel}
-use Rattle.cl_model.specs.declared.group.Group.{Group}
-use Rattle.cl_model.specs.AreNamed.{AreNamed}
-use Rattle.cl_model.specs.Groups.{no_group, group_at, groups_at}
-use Rattle.cl_model.specs.Validity.{IsValid}
+use Rattle.cl_model.specs.{declared.{model.SystemModel.SystemModel, group.Group.Group}, AreNamed.AreNamed, Groups.{no_group, group_at, groups_at}, Validity.IsValid}
 use Rattle.cl_model.proofs.GroupFacts.{groups_at_are}
-use Rattle.cl_runs.specs.Chains.{JobChain, IsForwardChain, first_group, first_job, last_group, last_job}
-use Rattle.cl_runs.specs.Legal.{IsLegal}
-use Rattle.cl_runs.specs.Measured.{IsMeasuredBy}
-use Rattle.cl_runs.specs.Moments.{Reads, Writes}
-use Rattle.cl_runs.specs.Run.{Run}
-use Rattle.cl_runs.specs.RunChains.{run_moments}
-use Rattle.cl_runs.specs.SystemOf.{system_of}
-use Rattle.cl_runs.proofs.ModelSystem.{system_sound}
-use Rattle.cl_runs.proofs.MomentFacts.{reads_below, writes_within}
+use Rattle.cl_runs.specs.{Chains.{JobChain, IsForwardChain, first_group, first_job, last_group, last_job}, Legal.IsLegal, Measured.IsMeasuredBy, Moments.{Reads, Writes}, Run.Run, RunChains.run_moments, SystemOf.system_of}
+use Rattle.cl_runs.proofs.{ModelSystem.system_sound, MomentFacts.{reads_below, writes_within}}
 use Rattle.cl_picture.specs.Window.{IsPictureWindow, x_of}
-use Rattle.cl_picture.proofs.BarSides.{choose}
-use Rattle.cl_picture.proofs.Lengths.{x_most}
-use Rattle.cl_picture.proofs.TextLengths.{IsWithin, AreWithin, HasDigits, IsShortName, digits, none, wider, fixed, number, name, both, each_of, no_lines, wider_lines, a_line, both_lines, lines_of}
-use Rattle.cl_picture.proofs.FrameLengths.{x_digits}
-use Rattle.cl_draw.specs.declared.chain_lines.Look.{Look}
-use Rattle.cl_draw.specs.declared.stops.Reaction.{Reaction}
-use Rattle.cl_draw.specs.declared.stops.Stop.{Stop}
-use Rattle.cl_draw.specs.ChainLines.{middle_of, line_at, half_of, leave, first_stop, last_stop, stop_pieces, reaction_title_line, falls_line, step_pieces_at, steps_line, frame_line, input_line}
-use Rattle.cl_draw.specs.ChainLines.{output_line, length_line, words_left, words_right, words_place, words_line, inside_lines, open_lines, none_line, outside_line, is_whole_inside, reaction_lines, shown_lines, chain_lines}
-use Rattle.cl_draw.specs.Reactions.{no_stop, stop_at_group, IsShown, IsShownOf, IsDrawnReaction}
+use Rattle.cl_picture.proofs.{BarSides.choose, Lengths.x_most, TextLengths.{IsWithin, AreWithin, HasDigits, IsShortName, digits, none, wider, fixed, number, name, both, each_of, no_lines, wider_lines, a_line, both_lines, lines_of}, FrameLengths.x_digits}
+use Rattle.cl_draw.specs.{declared.{chain_lines.Look.Look, stops.{Reaction.Reaction, Stop.Stop}}, ChainLines.{middle_of, line_at, half_of, leave, first_stop, last_stop, stop_pieces, reaction_title_line, falls_line, step_pieces_at, steps_line, frame_line, input_line, output_line}}
+use Rattle.cl_draw.specs.{ChainLines.{length_line, words_left, words_right, words_place, words_line, inside_lines, open_lines, none_line, outside_line, is_whole_inside, reaction_lines, shown_lines, chain_lines}, Reactions.{no_stop, stop_at_group, IsShown, IsShownOf, IsDrawnReaction}}
 use Rattle.cl_draw.proofs.SmallNumbers.{IsHeight, height_digits, row_height_is, task_short, job_below}
 
 -- ---- the numbers of a reaction

@@ -4,30 +4,15 @@ use Rattle.std.specs.Prelude.{sum, sum_by, slice_index}
 use Rattle.std.proofs.lemmas.Bool.{cases_lt}
 use Rattle.std.proofs.lemmas.List.{get_or_past, take_all}
 use Rattle.std.proofs.lemmas.List.Sums.{sum_by_more}
-use Rattle.cl_model.specs.declared.model.SystemModel.{SystemModel}
-use Rattle.cl_model.specs.ByNumber.{task_at, deadline_of}
-use Rattle.cl_runs.specs.declared.job.Job.{Job}
-use Rattle.cl_runs.specs.Table.{no_job, job_at}
-use Rattle.cl_runs.specs.TaskTiming.{Timing, timing_at, IsSound}
-use Rattle.cl_runs.specs.SystemOf.{system_of}
-use Rattle.cl_runs.specs.Run.{Run, jobs_of, core_entries, entry_at, executed}
-use Rattle.cl_runs.specs.Work.{work_before, work_through}
-use Rattle.cl_runs.proofs.Work.{through_place, before_past}
-use Rattle.cl_runs.proofs.Executed.{executed_zero, executed_stretch, executed_more}
-use Rattle.cl_runs.proofs.LegalFacts.{core_ticks, job_places, time_positive, executed_total}
-use Rattle.cl_runs.proofs.ModelSystem.{timing_is, count_is, range_count_is, system_sound}
-use Rattle.cl_draw.specs.declared.cursor.Cursor.{Cursor}
-use Rattle.cl_draw.specs.Inner.TaskRuns.{IsTaskRun}
-use Rattle.cl_draw.specs.Inner.Cursors.{time_at, StandsAt, RunsFrom}
+use Rattle.cl_model.specs.{declared.model.SystemModel.SystemModel, ByNumber.{task_at, deadline_of}}
+use Rattle.cl_runs.specs.{declared.job.Job.Job, Table.{no_job, job_at}, TaskTiming.{Timing, timing_at, IsSound}, SystemOf.system_of, Run.{Run, jobs_of, core_entries, entry_at, executed}, Work.{work_before, work_through}}
+use Rattle.cl_runs.proofs.{Work.{through_place, before_past}, Executed.{executed_zero, executed_stretch, executed_more}, LegalFacts.{core_ticks, job_places, time_positive, executed_total}, ModelSystem.{timing_is, count_is, range_count_is, system_sound}}
+use Rattle.cl_draw.specs.{declared.cursor.Cursor.Cursor, Inner.{TaskRuns.IsTaskRun, Cursors.{time_at, StandsAt, RunsFrom}}}
 
 -- past the last job nothing takes time
 pub no_time : (jobs : List Job) (job place : ℕ) → length jobs ≤ job → time_at jobs job place ≡ 0
 unfolding no_job
 no_time jobs job place past = ap (λ (j : Job). slice_index j.times place) (get_or_past jobs job no_job past)
-
--- past the last runnable neither
-pub no_place : (times : List ℕ) (place : ℕ) → length times ≤ place → slice_index times place ≡ 0
-no_place times place past = get_or_past times place 0 past
 
 -- the first runnable of a job has the jobs before it alone before it
 before_first : (jobs : List Job) (job : ℕ) → work_before jobs job 0 ≡ sum_by (λ (j : Job). sum j.times) (take job jobs)

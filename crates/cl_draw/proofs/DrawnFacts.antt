@@ -4,37 +4,13 @@ use Rattle.std.specs.Prelude.{All, ◌==◌, filter}
 use Rattle.std.specs.List.{range_with_len}
 use Rattle.std.proofs.lemmas.List.{get_or_default}
 use Rattle.std.proofs.lemmas.List.Elements.{All-nil, All-cons, All-head, All-tail, All-map, All-filter, All-from_get_or}
-use Rattle.cl_model.specs.declared.model.SystemModel.{SystemModel}
-use Rattle.cl_model.specs.declared.task.TaskDef.{TaskDef}
-use Rattle.cl_model.specs.ByNumber.{task_at, deadline_of}
-use Rattle.cl_model.specs.Groups.{no_group, group_at, groups_at, IsGroupOf}
-use Rattle.cl_model.specs.Validity.{IsValid}
+use Rattle.cl_model.specs.{declared.{model.SystemModel.SystemModel, task.TaskDef.TaskDef}, ByNumber.{task_at, deadline_of}, Groups.{no_group, group_at, groups_at, IsGroupOf}, Validity.IsValid}
 use Rattle.cl_model.proofs.GroupFacts.{groups_at_are}
-use Rattle.cl_runs.specs.Run.{Run, jobs_of}
-use Rattle.cl_runs.specs.Legal.{IsLegal}
-use Rattle.cl_runs.specs.SystemOf.{system_of}
-use Rattle.cl_runs.specs.RunChains.{run_moments}
-use Rattle.cl_runs.specs.Chains.{JobChain, IsForwardChain, first_job}
-use Rattle.cl_runs.specs.Measured.{IsMeasuredBy}
-use Rattle.cl_picture.specs.declared.window.Window.{Window}
-use Rattle.cl_picture.specs.declared.item.Item.{Item}
-use Rattle.cl_picture.specs.declared.item.Bar.{Bar}
-use Rattle.cl_picture.specs.Bars.{counts, bar_of, joined_bar, bars_from, bars}
-use Rattle.cl_picture.specs.Window.{high_of, IsPictureWindow}
-use Rattle.cl_draw.specs.declared.parts.Part.{Part}
-use Rattle.cl_draw.specs.declared.rows.Row.{Row}
-use Rattle.cl_draw.specs.declared.stops.Stop.{Stop}
-use Rattle.cl_draw.specs.declared.stops.Reaction.{Reaction}
-use Rattle.cl_draw.specs.declared.drawing.Drawing.{Drawing}
-use Rattle.cl_draw.specs.Items.{part_item, band, bands}
-use Rattle.cl_draw.specs.Rows.{IsRowOf, no_row, row_at}
-use Rattle.cl_draw.specs.Reactions.{no_stop, IsShownOf, IsDrawnReaction, reaction_at}
-use Rattle.cl_draw.specs.Picture.{AreTaskRows, AreReactions}
-use Rattle.cl_draw.specs.Inner.TaskRuns.{IsTaskRun, IsPartOf}
-use Rattle.cl_draw.specs.Inner.DrawnBars.{IsSayable, IsDrawableBar}
+use Rattle.cl_runs.specs.{Run.{Run, jobs_of}, Legal.IsLegal, SystemOf.system_of, RunChains.run_moments, Chains.{JobChain, IsForwardChain, first_job}, Measured.IsMeasuredBy}
+use Rattle.cl_picture.specs.{declared.{window.Window.Window, item.{Item.Item, Bar.Bar}}, Bars.{counts, bar_of, joined_bar, bars_from, bars}, Window.{high_of, IsPictureWindow}}
+use Rattle.cl_draw.specs.{declared.{parts.Part.Part, rows.Row.Row, stops.{Stop.Stop, Reaction.Reaction}, drawing.Drawing.Drawing}, Items.{part_item, band, bands}, Rows.{IsRowOf, no_row, row_at}, Reactions.{no_stop, IsShownOf, IsDrawnReaction, reaction_at}, Picture.AreTaskRows}
+use Rattle.cl_draw.specs.{Picture.AreReactions, Inner.{TaskRuns.{IsTaskRun, IsPartOf}, DrawnBars.{IsSayable, IsDrawableBar}, Heights.ArePlaces, Drawings.{IsDrawableRow, IsDrawing}}}
 use Rattle.cl_draw.specs.Inner.Looks as looks
-use Rattle.cl_draw.specs.Inner.Heights.{ArePlaces}
-use Rattle.cl_draw.specs.Inner.Drawings.{IsDrawableRow, IsDrawing}
 use Rattle.cl_draw.proofs.PartFacts.{parts_known}
 
 -- ---- bars

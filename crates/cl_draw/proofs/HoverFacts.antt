@@ -2,14 +2,8 @@
 use Rattle.std.proofs.Common.{◌≡◌, ℕ, Option, Some, List, [], ◌∷◌, ◌++◌, refl, ap, ◌∙◌}
 use Rattle.std.specs.Prelude.{unwrap_or, codes}
 use Rattle.cl_model.specs.declared.task.TaskDef.{TaskDef}
-use Rattle.cl_picture.specs.declared.item.Item.{Item}
-use Rattle.cl_picture.specs.declared.item.Bar.{Bar}
-use Rattle.cl_picture.specs.declared.item.End.{End}
-use Rattle.cl_picture.specs.declared.window.Window.{Window}
-use Rattle.cl_picture.specs.Pieces.{Fixed, Element}
-use Rattle.cl_picture.specs.Shown.{item_end, last_end, IsBarOf}
-use Rattle.cl_draw.specs.RowLines.{words_pieces, bar_head, bar_line}
-use Rattle.cl_draw.specs.Hovers.{last_item, hover_pieces, bar_shape}
+use Rattle.cl_picture.specs.{declared.{item.{Item.Item, Bar.Bar, End.End}, window.Window.Window}, Pieces.{Fixed, Element}, Shown.{item_end, last_end, IsBarOf}}
+use Rattle.cl_draw.specs.{RowLines.{words_pieces, bar_head, bar_line}, Hovers.{last_item, hover_pieces, bar_shape}}
 
 last_is : (item : Item) (items : List Item) → last_end (item ∷ items) ≡ Some (item_end (last_item item items))
 last_is item [] = refl

@@ -2,27 +2,12 @@
 use Rattle.std.proofs.Common.{◌≡◌, ℕ, ◌-◌, ◌^◌, ◌<◌, ◌≤◌, Bool, true, false, ◌&&◌, nat_lt, Some, None, List, length, min, sym, ap, ◌∙◌, arith, if◌then◌else◌}
 use Rattle.std.specs.Prelude.{unwrap_or, is_some, slice_get}
 use Rattle.std.proofs.lemmas.Bool.{ltb-true, false≢true}
-use Rattle.cl_runs.specs.declared.job.Job.{Job}
-use Rattle.cl_picture.specs.declared.item.Item.{Item}
-use Rattle.cl_picture.specs.declared.item.Rest.TheVariants.{Band}
-use Rattle.cl_draw.specs.Items.{band}
-use Rattle.cl_model.specs.declared.limits.TheConstants.{MOST_TICKS}
-use Rattle.cl_model.specs.declared.model.SystemModel.{SystemModel}
-use Rattle.cl_model.specs.declared.stimulus.StimulusKind.{StimulusKind}
-use Rattle.cl_model.specs.declared.stimulus.StimulusKind.TheVariants.{Periodic, Sporadic, Burst}
-use Rattle.cl_model.specs.ByNumber.{stimulus_of, deadline_of}
-use Rattle.cl_model.specs.Ranges.{IsKindInRange}
-use Rattle.cl_model.specs.Timing.{least_distance}
+use Rattle.cl_runs.specs.{declared.job.Job.Job, Table.job_at, Run.{Run, jobs_of}, SystemOf.system_of}
+use Rattle.cl_picture.specs.{declared.{item.{Item.Item, Rest.TheVariants.Band}, window.Window.Window}, Window.IsPictureWindow}
+use Rattle.cl_draw.specs.{Items.band, Parts.due_at, Inner.TaskRuns.{IsTaskRun, passing}}
+use Rattle.cl_model.specs.{declared.{limits.TheConstants.MOST_TICKS, model.SystemModel.SystemModel, stimulus.StimulusKind.{StimulusKind, TheVariants.{Periodic, Sporadic, Burst}}}, ByNumber.{stimulus_of, deadline_of}, Ranges.IsKindInRange, Timing.least_distance}
 use Rattle.cl_model.proofs.ValidTasks.{kind_in_range, early_enough}
-use Rattle.cl_runs.specs.Table.{job_at}
-use Rattle.cl_runs.specs.Run.{Run, jobs_of}
-use Rattle.cl_runs.specs.SystemOf.{system_of}
-use Rattle.cl_runs.proofs.RunArrivals.{released_late}
-use Rattle.cl_runs.proofs.ModelSystem.{count_is, system_sound}
-use Rattle.cl_picture.specs.declared.window.Window.{Window}
-use Rattle.cl_picture.specs.Window.{IsPictureWindow}
-use Rattle.cl_draw.specs.Parts.{due_at}
-use Rattle.cl_draw.specs.Inner.TaskRuns.{IsTaskRun, passing}
+use Rattle.cl_runs.proofs.{RunArrivals.released_late, ModelSystem.{count_is, system_sound}}
 
 pub least_few : (kind : StimulusKind) → IsKindInRange kind → least_distance kind ≤ MOST_TICKS
 least_few (Periodic period offset jitter) in_range = in_range.0.1

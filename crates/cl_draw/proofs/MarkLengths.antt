@@ -7,33 +7,14 @@ use Rattle.std.proofs.lemmas.List.{get_or_default}
 use Rattle.std.proofs.lemmas.List.Elements.{All-nil, All-map, All-filter, All-head, All-tail}
 use Rattle.std.proofs.lemmas.List.FromFn.{fill_by_all, length-range_with_len, get_or-range_with_len}
 use Rattle.std.proofs.lemmas.List.Kept.{AllPairs-filter}
-use Rattle.cl_model.specs.declared.model.SystemModel.{SystemModel}
-use Rattle.cl_model.specs.ByNumber.{deadline_of}
-use Rattle.cl_runs.specs.declared.job.Job.{Job}
-use Rattle.cl_runs.specs.Run.{Run, jobs_of}
-use Rattle.cl_runs.specs.Table.{no_job, job_at}
-use Rattle.cl_runs.specs.TaskTiming.{IsSound}
-use Rattle.cl_runs.specs.SystemOf.{system_of}
-use Rattle.cl_runs.proofs.ModelSystem.{count_is, system_sound}
-use Rattle.cl_runs.proofs.RunArrivals.{arrivals_rise, arrives_after_deadline, released_late, released_within}
-use Rattle.cl_picture.specs.declared.window.Window.{Window}
-use Rattle.cl_picture.specs.Pieces.{Element}
-use Rattle.cl_picture.specs.Window.{IsPictureWindow, is_inside, x_of}
-use Rattle.cl_picture.proofs.BarSides.{choose, pairs_head, pairs_tail}
-use Rattle.cl_picture.proofs.Lengths.{x_most}
-use Rattle.cl_picture.proofs.Printing.{flat_range}
-use Rattle.cl_picture.proofs.TextLengths.{IsWithin, AreWithin, digits, none, fixed, number, both, each_of, no_lines, wider_lines, a_line, both_lines}
-use Rattle.cl_picture.proofs.FrameLengths.{x_digits}
-use Rattle.cl_picture.proofs.Units.{x_mono, x_least}
-use Rattle.cl_draw.specs.declared.marks.Arrival.{Arrival}
-use Rattle.cl_draw.specs.declared.marks.Marks.{Marks}
-use Rattle.cl_draw.specs.declared.marks.TheConstants.{MOST_ARRIVALS}
-use Rattle.cl_draw.specs.Marks.{arrival_of, is_seen, arrivals, due_of, dues, wait_of, is_wait, waits, no_marks, marks_of}
-use Rattle.cl_draw.specs.MarkLines.{no_arrival, wait_pieces, arrival_pieces, due_pieces, arrival_at, has_room, arrival_label_line, label_at, labels, mark_lines}
-use Rattle.cl_draw.specs.Inner.TaskRuns.{IsTaskRun}
-use Rattle.cl_draw.proofs.CursorFacts.{deadline_is}
-use Rattle.cl_draw.proofs.RowSides.{pairs_map}
-use Rattle.cl_draw.proofs.SmallNumbers.{job_below}
+use Rattle.cl_model.specs.{declared.model.SystemModel.SystemModel, ByNumber.deadline_of}
+use Rattle.cl_runs.specs.{declared.job.Job.Job, Run.{Run, jobs_of}, Table.{no_job, job_at}, TaskTiming.IsSound, SystemOf.system_of}
+use Rattle.cl_runs.proofs.{ModelSystem.{count_is, system_sound}, RunArrivals.{arrivals_rise, arrives_after_deadline, released_late, released_within}}
+use Rattle.cl_picture.specs.{declared.window.Window.Window, Pieces.Element, Window.{IsPictureWindow, is_inside, x_of}}
+use Rattle.cl_picture.proofs.{BarSides.{choose, pairs_head, pairs_tail}, Lengths.x_most, Printing.flat_range, TextLengths.{IsWithin, AreWithin, digits, none, fixed, number, both, each_of, no_lines, wider_lines, a_line, both_lines}, FrameLengths.x_digits, Units.{x_mono, x_least}}
+use Rattle.cl_draw.specs.{declared.marks.{Arrival.Arrival, Marks.Marks, TheConstants.MOST_ARRIVALS}, Marks.{arrival_of, is_seen, arrivals, due_of, dues, wait_of, is_wait, waits, no_marks, marks_of}, MarkLines.{no_arrival, wait_pieces, arrival_pieces, due_pieces, arrival_at, has_room}}
+use Rattle.cl_draw.specs.{MarkLines.{arrival_label_line, label_at, labels, mark_lines}, Inner.TaskRuns.IsTaskRun}
+use Rattle.cl_draw.proofs.{CursorFacts.deadline_is, RowSides.pairs_map, SmallNumbers.job_below}
 
 -- ---- how many items pass a test
 

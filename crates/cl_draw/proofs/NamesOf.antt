@@ -4,14 +4,8 @@ use Rattle.std.specs.Prelude.{All, slice_index_or}
 use Rattle.std.proofs.lemmas.Bool.{cases_lt}
 use Rattle.std.proofs.lemmas.List.{get_or_past}
 use Rattle.std.proofs.lemmas.List.Elements.{All-nil}
-use Rattle.cl_model.specs.declared.model.SystemModel.{SystemModel}
-use Rattle.cl_model.specs.declared.model.CoreDef.{CoreDef}
-use Rattle.cl_model.specs.declared.chain.ChainDef.{ChainDef}
-use Rattle.cl_model.specs.declared.task.RunnableDef.{RunnableDef}
-use Rattle.cl_model.specs.declared.task.TaskDef.{TaskDef}
-use Rattle.cl_model.specs.AreNamed.{IsRunnableNamed, IsTaskNamed, IsChainNamed, AreNamed}
-use Rattle.cl_model.specs.ByNumber.{no_task, no_chain, no_core, no_runnable, task_at, chain_at, core_at}
-use Rattle.cl_model.specs.Name.{IsName}
+use Rattle.cl_model.specs.{declared.{model.{SystemModel.SystemModel, CoreDef.CoreDef}, chain.ChainDef.ChainDef, task.{RunnableDef.RunnableDef, TaskDef.TaskDef}}, AreNamed.{IsRunnableNamed, IsTaskNamed, IsChainNamed, AreNamed}, ByNumber.{no_task, no_chain, no_core, no_runnable, task_at}}
+use Rattle.cl_model.specs.{ByNumber.{chain_at, core_at}, Name.IsName}
 
 module _ (P : List ℕ → Type 0) (empty : P []) (has : (name : List ℕ) → IsName name → P name) where
   -- the name of an item of a list, or of none

@@ -2,14 +2,9 @@
 use Rattle.std.proofs.Common.{◌≡◌, ℕ, zero, suc, ◌<◌, ◌≤◌, inl, inr, Some, List, [], ◌∷◌, length, refl, sym, ap, subst, ◌∙◌, arith}
 use Rattle.std.proofs.lemmas.Bool.{cases_lt}
 use Rattle.cl_model.specs.declared.model.SystemModel.{SystemModel}
-use Rattle.cl_runs.specs.TaskTiming.{System, timing_at}
-use Rattle.cl_runs.specs.SystemOf.{system_of}
-use Rattle.cl_runs.specs.Run.{Run, jobs_of, entry_at}
-use Rattle.cl_runs.specs.Moments.{Executes}
+use Rattle.cl_runs.specs.{TaskTiming.{System, timing_at}, SystemOf.system_of, Run.{Run, jobs_of, entry_at}, Moments.Executes}
 use Rattle.cl_runs.proofs.Work.{through_place, places_rise, work_rises}
-use Rattle.cl_draw.specs.declared.parts.Part.{Part}
-use Rattle.cl_draw.specs.Parts.{due_in, part_at, IsPart, IsFollowedBy, HasPartAt, AreParts}
-use Rattle.cl_draw.specs.Inner.TaskRuns.{IsTaskRun}
+use Rattle.cl_draw.specs.{declared.parts.Part.Part, Parts.{due_in, part_at, IsPart, IsFollowedBy, HasPartAt, AreParts}, Inner.TaskRuns.IsTaskRun}
 use Rattle.cl_draw.proofs.CursorFacts.{places_are}
 
 -- the parts from a tick on

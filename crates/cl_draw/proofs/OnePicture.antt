@@ -4,25 +4,12 @@ use Rattle.std.specs.Prelude.{All}
 use Rattle.std.specs.List.{flat_map, range_with_len}
 use Rattle.std.proofs.lemmas.List.Elements.{All-head, All-tail}
 use Rattle.std.proofs.lemmas.List.FromFn.{length-range_with_len, get_or-range_with_len}
-use Rattle.cl_model.specs.declared.model.SystemModel.{SystemModel}
-use Rattle.cl_model.specs.ByNumber.{chain_at, tasks_of_core}
-use Rattle.cl_model.specs.Validity.{IsValid}
+use Rattle.cl_model.specs.{declared.model.SystemModel.SystemModel, ByNumber.{chain_at, tasks_of_core}, Validity.IsValid}
 use Rattle.cl_model.proofs.CoreTasks.{below_known}
-use Rattle.cl_runs.specs.Legal.{IsLegal}
-use Rattle.cl_runs.specs.Run.{Run}
-use Rattle.cl_runs.specs.SystemOf.{system_of}
-use Rattle.cl_picture.specs.declared.window.Window.{Window}
-use Rattle.cl_picture.specs.Pieces.{Element, print}
-use Rattle.cl_picture.specs.Axis.{axis}
-use Rattle.cl_picture.specs.Frame.{begin, end}
-use Rattle.cl_draw.specs.declared.rows.Row.{Row}
-use Rattle.cl_draw.specs.declared.stops.Reaction.{Reaction}
-use Rattle.cl_draw.specs.Places.{row_top, bottom}
-use Rattle.cl_draw.specs.Rows.{row_at}
-use Rattle.cl_draw.specs.RowLines.{row_lines}
-use Rattle.cl_draw.specs.Reactions.{reaction_at}
-use Rattle.cl_draw.specs.ChainLines.{chain_lines}
-use Rattle.cl_draw.specs.Picture.{heads, names, by_core, by_cores, task_elements, look_of, chain_elements, picture, window_between, IsPictureOf}
+use Rattle.cl_runs.specs.{Legal.IsLegal, Run.Run, SystemOf.system_of}
+use Rattle.cl_picture.specs.{declared.window.Window.Window, Pieces.{Element, print}, Axis.axis, Frame.{begin, end}}
+use Rattle.cl_draw.specs.{declared.{rows.Row.Row, stops.Reaction.Reaction}, Places.{row_top, bottom}, Rows.row_at, RowLines.row_lines, Reactions.reaction_at, ChainLines.chain_lines, Picture.{heads, names, by_core, by_cores, task_elements, look_of, chain_elements, picture, window_between}}
+use Rattle.cl_draw.specs.Picture.{IsPictureOf}
 use Rattle.cl_draw.proofs.OneRow.{one_row, one_reaction}
 
 -- what comes of items depends on what comes of each alone

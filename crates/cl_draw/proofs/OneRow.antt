@@ -2,33 +2,12 @@
 use Rattle.std.proofs.Common.{◌≡◌, ℕ, suc, ◌<◌, ◌-◌, Option, Some, None, List, [], ◌∷◌, length, map, refl, sym, ap, subst, ◌∙◌, arith}
 use Rattle.std.specs.Prelude.{slice_get, slice_index}
 use Rattle.std.proofs.lemmas.List.{ext_get_or}
-use Rattle.cl_model.specs.declared.model.SystemModel.{SystemModel}
-use Rattle.cl_model.specs.declared.group.Group.{Group}
-use Rattle.cl_model.specs.ByNumber.{task_at, deadline_of}
-use Rattle.cl_model.specs.Groups.{group_at, groups_at}
-use Rattle.cl_runs.specs.TaskTiming.{timing_at}
-use Rattle.cl_runs.specs.SystemOf.{system_of}
-use Rattle.cl_runs.specs.Run.{Run, jobs_of}
-use Rattle.cl_runs.specs.Moments.{JobFinishes}
-use Rattle.cl_runs.specs.Chains.{Moments, JobChain}
-use Rattle.cl_runs.specs.RunChains.{run_moments}
-use Rattle.cl_runs.specs.MomentOrder.{AreUnique}
-use Rattle.cl_runs.specs.Measured.{Measured, IsMeasured}
-use Rattle.cl_runs.proofs.StartsFinishes.{finishes_once}
-use Rattle.cl_runs.proofs.OrderedMoments.{run_unique}
-use Rattle.cl_runs.proofs.MeasuredOnce.{measured_once}
+use Rattle.cl_model.specs.{declared.{model.SystemModel.SystemModel, group.Group.Group}, ByNumber.{task_at, deadline_of}, Groups.{group_at, groups_at}}
+use Rattle.cl_runs.specs.{TaskTiming.timing_at, SystemOf.system_of, Run.{Run, jobs_of}, Moments.JobFinishes, Chains.{Moments, JobChain}, RunChains.run_moments, MomentOrder.AreUnique, Measured.{Measured, IsMeasured}}
+use Rattle.cl_runs.proofs.{StartsFinishes.finishes_once, OrderedMoments.run_unique, MeasuredOnce.measured_once}
 use Rattle.cl_check.specs.JobMoments.{IsMomentOf}
-use Rattle.cl_picture.specs.declared.window.Window.{Window}
-use Rattle.cl_picture.specs.Bars.{bars}
-use Rattle.cl_draw.specs.declared.parts.Part.{Part}
-use Rattle.cl_draw.specs.declared.rows.Row.{Row}
-use Rattle.cl_draw.specs.declared.stops.Stop.{Stop}
-use Rattle.cl_draw.specs.declared.stops.Reaction.{Reaction}
-use Rattle.cl_draw.specs.Parts.{AreFinishes}
-use Rattle.cl_draw.specs.Items.{part_item, bands}
-use Rattle.cl_draw.specs.Rows.{IsRowOf}
-use Rattle.cl_draw.specs.Reactions.{no_stop, stop_at_group, IsStop, IsShown, IsShownOf, IsDrawnReaction}
-use Rattle.cl_draw.specs.Inner.TaskRuns.{IsTaskRun}
+use Rattle.cl_picture.specs.{declared.window.Window.Window, Bars.bars}
+use Rattle.cl_draw.specs.{declared.{parts.Part.Part, rows.Row.Row, stops.{Stop.Stop, Reaction.Reaction}}, Parts.AreFinishes, Items.{part_item, bands}, Rows.IsRowOf, Reactions.{no_stop, stop_at_group, IsStop, IsShown, IsShownOf, IsDrawnReaction}, Inner.TaskRuns.IsTaskRun}
 use Rattle.cl_draw.proofs.OneParts.{one_parts}
 
 -- ---- finishes

@@ -5,27 +5,13 @@ use Rattle.std.specs.Option.{option_to_list}
 use Rattle.std.proofs.lemmas.List.{append-nil, get_or_default}
 use Rattle.std.proofs.lemmas.Bool.{cases_lt}
 use Rattle.std.proofs.lemmas.Option.{slice_get_cases, slice_get-get_or, get_or_from_slice_get}
-use Rattle.cl_model.specs.declared.model.SystemModel.{SystemModel}
-use Rattle.cl_model.specs.ByNumber.{deadline_of}
-use Rattle.cl_runs.specs.TaskTiming.{timing_at}
-use Rattle.cl_runs.specs.SystemOf.{system_of}
-use Rattle.cl_runs.specs.Run.{Run, jobs_of, entry_at, executed}
-use Rattle.cl_runs.specs.Work.{work_through}
-use Rattle.cl_runs.specs.Moments.{Finishes, JobFinishes}
-use Rattle.cl_runs.proofs.Climbing.{climb_mono}
-use Rattle.cl_runs.proofs.Work.{through_place, places_rise, work_rises}
+use Rattle.cl_model.specs.{declared.model.SystemModel.SystemModel, ByNumber.deadline_of}
+use Rattle.cl_runs.specs.{TaskTiming.timing_at, SystemOf.system_of, Run.{Run, jobs_of, entry_at, executed}, Work.work_through, Moments.{Finishes, JobFinishes}}
+use Rattle.cl_runs.proofs.{Climbing.climb_mono, Work.{through_place, places_rise, work_rises}, Executed.{executed_climbs, executed_stretch, executed_rest}}
 use Rattle.cl_check.specs.JobMoments.{IsMomentOf}
-use Rattle.cl_runs.proofs.Executed.{executed_climbs, executed_stretch, executed_rest}
-use Rattle.cl_draw.specs.declared.cursor.Cursor.{Cursor}
-use Rattle.cl_draw.specs.declared.parts.Part.{Part}
-use Rattle.cl_draw.specs.declared.parts.Work.{Work}
-use Rattle.cl_draw.specs.Parts.{due_at, due_in, no_part, part_at, IsPart, IsFollowedBy, HasPartAt, AreParts, AreFinishes}
-use Rattle.cl_draw.specs.Inner.TaskRuns.{IsTaskRun, IsPartOf}
-use Rattle.cl_draw.specs.Inner.Cursors.{StandsAt, FinishesJob, ArePartsBelow, IsWorkAt, IsCutAt, RunsFrom, IsFurther}
-use Rattle.cl_draw.specs.Inner.Ends.{part_end}
-use Rattle.cl_draw.proofs.CursorFacts.{ticks_are, places_are, ranges_are, some_range, deadline_is}
-use Rattle.cl_draw.proofs.PartEnds.{IsPartEnd, part_ends, uncapped}
-use Rattle.cl_draw.proofs.Pushed.{count_pushed, kept, added, each_pushed, neighbours_pushed}
+use Rattle.cl_draw.specs.{declared.{cursor.Cursor.Cursor, parts.{Part.Part, Work.Work}}, Parts.{due_at, due_in, no_part, part_at, IsPart, IsFollowedBy, HasPartAt, AreParts, AreFinishes}, Inner.{TaskRuns.{IsTaskRun, IsPartOf}, Cursors.{StandsAt, FinishesJob, ArePartsBelow, IsWorkAt}}}
+use Rattle.cl_draw.specs.Inner.{Cursors.{IsCutAt, RunsFrom, IsFurther}, Ends.part_end}
+use Rattle.cl_draw.proofs.{CursorFacts.{ticks_are, places_are, ranges_are, some_range, deadline_is}, PartEnds.{IsPartEnd, part_ends, uncapped}, Pushed.{count_pushed, kept, added, each_pushed, neighbours_pushed}}
 
 -- ---- parts
 
@@ -272,9 +258,6 @@ module _ (model : SystemModel) (run : Run) (task : ℕ) (of : IsTaskRun model ru
     all_parts = record { each = at_end.parts.each; in_order = at_end.parts.in_order; all = at_end.parts.all }
 
     module _ (last : ℕ) (is_last : suc last ≡ length (timing_at (system_of model) task).ranges) where
-      ranges : ℕ
-      ranges = length (timing_at (system_of model) task).ranges
-
       -- the work through a runnable of a job is within that through the last one
       to_last : (job place : ℕ) → job < length (jobs_of run task) → place ≤ last → work_through (jobs_of run task) job place ≤ work_through (jobs_of run task) job last
       to_last job place in_table within =

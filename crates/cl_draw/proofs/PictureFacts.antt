@@ -3,18 +3,10 @@ use Rattle.std.proofs.Common.{◌≡◌, ℕ, ◌+◌, List, [], ◌++◌, lengt
 use Rattle.std.specs.List.{flat_map, range_with_len}
 use Rattle.cl_model.specs.declared.model.SystemModel.{SystemModel}
 use Rattle.cl_runs.specs.Run.{Run}
-use Rattle.cl_picture.specs.declared.window.Window.{Window}
-use Rattle.cl_picture.specs.Pieces.{print}
-use Rattle.cl_picture.specs.Axis.{axis}
-use Rattle.cl_picture.specs.Frame.{begin, end}
+use Rattle.cl_picture.specs.{declared.window.Window.Window, Pieces.print, Axis.axis, Frame.{begin, end}}
 use Rattle.cl_picture.proofs.Printing.{more_elements}
-use Rattle.cl_draw.specs.declared.rows.Row.{Row}
-use Rattle.cl_draw.specs.declared.stops.Reaction.{Reaction}
+use Rattle.cl_draw.specs.{declared.{rows.Row.Row, stops.Reaction.Reaction, drawing.Drawing.Drawing}, Places.bottom, Picture.{heads, names, by_cores, task_elements, chain_elements, picture, AreTaskRows, window_between, IsPictureOf}, Inner.Drawings.IsDrawing}
 use Rattle.std.specs.Prelude.{Option}
-use Rattle.cl_draw.specs.Places.{bottom}
-use Rattle.cl_draw.specs.declared.drawing.Drawing.{Drawing}
-use Rattle.cl_draw.specs.Picture.{heads, names, by_cores, task_elements, chain_elements, picture, AreTaskRows, window_between, IsPictureOf}
-use Rattle.cl_draw.specs.Inner.Drawings.{IsDrawing}
 
 module _ (model : SystemModel) (run : Run) (window : Window) (rows : List Row) (reactions : List (Option Reaction)) (height ticks : ℕ) (is_height : height ≡ bottom model)
     (is_ticks : ticks ≡ run.table.ticks) (t0 t1 t2 t3 t4 t5 t6 t7 : List ℕ) where

@@ -4,38 +4,15 @@ use Rattle.std.specs.Prelude.{All, codes, sum_by}
 use Rattle.std.specs.List.{flat_map, range_with_len}
 use Rattle.std.proofs.lemmas.List.FromFn.{length-range_with_len, get_or-range_with_len}
 use Rattle.std.proofs.lemmas.List.Sums.{sum_by-le}
-use Rattle.cl_model.specs.declared.model.SystemModel.{SystemModel}
-use Rattle.cl_model.specs.AreNamed.{AreNamed}
-use Rattle.cl_model.specs.ByNumber.{task_at, chain_at, core_of, deadline_of, tasks_of_core}
-use Rattle.cl_model.specs.Validity.{IsValid}
+use Rattle.cl_model.specs.{declared.model.SystemModel.SystemModel, AreNamed.AreNamed, ByNumber.{task_at, chain_at, core_of, deadline_of, tasks_of_core}, Validity.IsValid}
 use Rattle.cl_model.proofs.CoreTasks.{below_known}
-use Rattle.cl_runs.specs.Legal.{IsLegal}
-use Rattle.cl_runs.specs.Run.{Run, jobs_of}
-use Rattle.cl_runs.specs.SystemOf.{system_of}
-use Rattle.cl_picture.specs.declared.item.Bar.{Bar}
-use Rattle.cl_picture.specs.declared.window.Window.{Window}
-use Rattle.cl_picture.specs.Pieces.{Element}
-use Rattle.cl_picture.specs.Shown.{LieSideBySide}
-use Rattle.cl_picture.specs.Window.{IsPictureWindow}
-use Rattle.cl_picture.proofs.TextLengths.{IsWithin, AreWithin, IsShortName, digits, none, wider, fixed, number, name, no_lines, wider_lines, a_line, both_lines, lines_of, all_lines_of}
-use Rattle.cl_picture.proofs.FrameLengths.{begin_within, end_within, axis_within}
-use Rattle.cl_draw.specs.declared.drawing.Drawing.{Drawing}
-use Rattle.cl_draw.specs.declared.rows.Row.{Row}
-use Rattle.cl_draw.specs.Lengths.{bars_of_task, bar_count, groups_of_chain, group_count, most_length}
-use Rattle.cl_draw.specs.Marks.{marks_of}
-use Rattle.cl_draw.specs.Picture.{core_head, chains_head, heads, name_lines, task_name, chain_name, by_core, by_cores, names, task_elements, look_of, chain_elements, picture, window_between, AreTaskRows, IsPictureOf}
-use Rattle.cl_draw.specs.Places.{row_top, chain_top, bottom}
-use Rattle.cl_draw.specs.Reactions.{reaction_at}
-use Rattle.cl_draw.specs.RowLines.{bar_line, row_lines}
-use Rattle.cl_draw.specs.Rows.{IsRowOf, row_at}
-use Rattle.cl_draw.specs.Inner.Drawings.{IsDrawing}
-use Rattle.cl_draw.specs.Inner.TaskRuns.{IsTaskRun}
-use Rattle.cl_draw.proofs.BarLengths.{few_bars, IsSmallBar, small_bars_of_bands, small_bars_of_parts, bar_within}
-use Rattle.cl_draw.proofs.ChainLengths.{small_reaction, chain_within}
-use Rattle.cl_draw.proofs.MarkLengths.{few_marks, marks_within}
-use Rattle.cl_draw.proofs.RowSides.{bands_beside, parts_beside}
-use Rattle.cl_draw.proofs.SmallNumbers.{IsHeight, height_digits, own_digits, core_short, task_short, chain_short, core_height_is, row_height_is, chain_height_is, bottom_is}
-use Rattle.cl_draw.proofs.TaskSums.{sum_times, keyed_sum}
+use Rattle.cl_runs.specs.{Legal.IsLegal, Run.{Run, jobs_of}, SystemOf.system_of}
+use Rattle.cl_picture.specs.{declared.{item.Bar.Bar, window.Window.Window}, Pieces.Element, Shown.LieSideBySide, Window.IsPictureWindow}
+use Rattle.cl_picture.proofs.{TextLengths.{IsWithin, AreWithin, IsShortName, digits, none, wider, fixed, number, name, no_lines, wider_lines, a_line, both_lines, lines_of, all_lines_of}, FrameLengths.{begin_within, end_within, axis_within}}
+use Rattle.cl_draw.specs.{declared.{drawing.Drawing.Drawing, rows.Row.Row}, Lengths.{bars_of_task, bar_count, groups_of_chain, group_count, most_length}, Marks.marks_of, Picture.{core_head, chains_head, heads, name_lines, task_name, chain_name, by_core, by_cores, names, task_elements}}
+use Rattle.cl_draw.specs.{Picture.{look_of, chain_elements, picture, window_between, AreTaskRows, IsPictureOf}, Places.{row_top, chain_top, bottom}, Reactions.reaction_at, RowLines.{bar_line, row_lines}, Rows.{IsRowOf, row_at}, Inner.{Drawings.IsDrawing, TaskRuns.IsTaskRun}}
+use Rattle.cl_draw.proofs.{BarLengths.{few_bars, IsSmallBar, small_bars_of_bands, small_bars_of_parts, bar_within}, ChainLengths.{small_reaction, chain_within}, MarkLengths.{few_marks, marks_within}, RowSides.{bands_beside, parts_beside}, SmallNumbers.{IsHeight, height_digits, own_digits}}
+use Rattle.cl_draw.proofs.{SmallNumbers.{core_short, task_short, chain_short, core_height_is, row_height_is, chain_height_is, bottom_is}, TaskSums.{sum_times, keyed_sum}}
 
 -- what is so of each number below n
 of_each : (P : ℕ → Type 0) (n : ℕ) → ((k : ℕ) → k < n → P k) → All P (range_with_len 0 n)

@@ -1,20 +1,16 @@
 -- How high heads and rows stand, one after the other.
 use Rattle.std.proofs.Common.{◌≡◌, ◌≢◌, ℕ, zero, suc, ◌+◌, ◌*◌, ◌<◌, ◌≤◌, Bool, true, false, nat_eq, List, [], ◌∷◌, ◌++◌, length, get_or, set, map, refl, sym, ap, subst, ◌∙◌, arith, length-append}
-use Rattle.std.specs.Prelude.{filter, sum, slice_index, All, ◌==◌}
+use Rattle.std.specs.Prelude.{filter, sum, slice_index, ◌==◌}
 use Rattle.std.specs.List.{range_with_len}
 use Rattle.std.proofs.lemmas.Bool.{eq-eqb, ne_eqb, eqb-true, eqb-false}
-use Rattle.std.proofs.lemmas.List.{get_or-map, get_or-set_same, get_or-set_other, length-map, length-set, get_or_default}
+use Rattle.std.proofs.lemmas.List.{get_or-set_same, get_or-set_other, length-set, get_or_default}
 use Rattle.std.proofs.lemmas.List.Elements.{filter-append}
 use Rattle.std.proofs.lemmas.List.Sums.{sum_by-append}
 use Rattle.cl_text.proofs.MoreLines.{range_more}
-use Rattle.cl_model.specs.declared.model.SystemModel.{SystemModel}
-use Rattle.cl_model.specs.ByNumber.{core_of, tasks_of_core_below}
-use Rattle.cl_model.specs.Validity.{IsValid}
+use Rattle.cl_model.specs.{declared.model.SystemModel.SystemModel, ByNumber.{core_of, tasks_of_core_below}, Validity.IsValid}
 use Rattle.cl_model.proofs.CoreTasks.{few_tasks}
 use Rattle.cl_picture.proofs.Printing.{mapped_range}
-use Rattle.cl_draw.specs.declared.places.TheConstants.{FIRST_TOP, HEAD, ROW, MOST_HEIGHT}
-use Rattle.cl_draw.specs.Places.{core_height, core_top, row_top}
-use Rattle.cl_draw.specs.Inner.Heights.{AreCoreTops, AreRowTops}
+use Rattle.cl_draw.specs.{declared.places.TheConstants.{FIRST_TOP, HEAD, ROW, MOST_HEIGHT}, Places.{core_height, core_top, row_top}, Inner.Heights.AreCoreTops}
 use Rattle.cl_draw.proofs.FirstItems.{AreFirst, none_first, one_more_first}
 
 -- ---- cores
@@ -140,23 +136,6 @@ pub record AreRowsBelow (model : SystemModel) (task : ℕ) (next rows : List ℕ
   pub each : (core : ℕ) → core < length model.cores → slice_index next core ≡ next_row model task core
   pub begun : AreFirst (IsRowTop model) 0 task rows
 
-pub few_tops : (model : SystemModel) (tops : List ℕ) → AreCoreTops model tops → All (λ top. top ≤ MOST_HEIGHT) tops
-few_tops model tops are = λ k d below.
-    subst (λ t. t ≤ MOST_HEIGHT) (sym (get_or_default tops k d 0 below)) (are.most k (omega (arith, below, are.count)))
-
-pub no_rows : (model : SystemModel) (tops next rows : List ℕ) → AreCoreTops model tops → next ≡ map (λ top. top + HEAD) tops → rows ≡ [] → AreRowsBelow model 0 next rows
-no_rows model tops next rows are is empty = record {
-  count = ap length is ∙ length-map tops (λ top. top + HEAD) ∙ are.count;
-  each = λ core within. omega (
-    arith,
-    ap (λ (xs : List ℕ). get_or xs core 0) is,
-    get_or-map (λ top. top + HEAD) tops core 0 0 (omega (arith, within, are.count)),
-    are.each core (omega (arith, within)),
-    below_few model 0 core,
-  );
-  begun = subst (AreFirst (IsRowTop model) 0 0) (sym empty) (none_first (IsRowTop model) 0);
-}
-
 module _ (model : SystemModel) (valid : IsValid model) (task core : ℕ) (next rows : List ℕ) (top d : ℕ) (below : AreRowsBelow model task next rows)
     (is_task : task < length model.tasks) (is_core : core ≡ core_of model task) (within : core < length model.cores) (is : top ≡ get_or next core d) where
   pub row_reached : top ≡ next_row model task core
@@ -191,10 +170,3 @@ module _ (model : SystemModel) (valid : IsValid model) (task core : ℕ) (next r
     ] refl;
     begun = one_more_first (IsRowTop model) 0 task rows more top below.begun is_row pushed;
   }
-
-pub all_rows : (model : SystemModel) (task : ℕ) (next rows : List ℕ) → task ≡ length model.tasks → AreRowsBelow model task next rows → AreRowTops model rows
-all_rows model task next rows all below = record {
-  count = below.begun.count ∙ all;
-  each = λ i within. (below.begun.each i (omega (arith, within, all))).is;
-  most = λ i within. (below.begun.each i (omega (arith, within, all))).most;
-}

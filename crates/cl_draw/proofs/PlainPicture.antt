@@ -5,40 +5,17 @@ use Rattle.std.specs.List.{flat_map, list_all, range_with_len}
 use Rattle.std.proofs.lemmas.Grind.{common_steps}
 use Rattle.std.proofs.lemmas.List.Elements.{All-nil}
 use Rattle.std.proofs.lemmas.List.Sums.{AllPass-from_list_all}
-use Rattle.cl_model.specs.declared.model.SystemModel.{SystemModel}
-use Rattle.cl_model.specs.AreNamed.{AreNamed}
-use Rattle.cl_model.specs.ByNumber.{no_runnable, task_at, chain_at, core_at, deadline_of, tasks_of_core}
-use Rattle.cl_model.specs.Name.{is_name_byte, IsName}
+use Rattle.cl_model.specs.{declared.model.SystemModel.SystemModel, AreNamed.AreNamed, ByNumber.{no_runnable, task_at, chain_at, core_at, deadline_of, tasks_of_core}, Name.{is_name_byte, IsName}}
 use Rattle.cl_model.proofs.ListFacts.{both_pass}
 use Rattle.cl_runs.specs.Run.{Run, jobs_of}
-use Rattle.cl_picture.specs.declared.window.Window.{Window}
-use Rattle.cl_picture.specs.declared.item.Bar.{Bar}
-use Rattle.cl_picture.specs.declared.item.End.{End}
-use Rattle.cl_picture.specs.declared.item.Item.{Item}
-use Rattle.cl_picture.specs.declared.item.Rest.{Rest}
+use Rattle.cl_picture.specs.{declared.{window.Window.Window, item.{Bar.Bar, End.End, Item.Item, Rest.Rest}}, Axis.axis, Frame.{begin, end, close_line}, Pieces.{Piece, Element, Fixed, Number}, Window.x_of, Plain.{is_format_byte, IsPlainText, ArePlain}}
 use Rattle.cl_picture.specs.declared.item.Rest.TheVariants as rest
-use Rattle.cl_picture.specs.Axis.{axis}
-use Rattle.cl_picture.specs.Frame.{begin, end, close_line}
-use Rattle.cl_picture.specs.Pieces.{Piece, Element, Fixed, Number}
-use Rattle.cl_picture.specs.Window.{x_of}
-use Rattle.cl_picture.specs.Plain.{is_format_byte, IsPlainText, ArePlain}
-use Rattle.cl_picture.proofs.BarSides.{choose}
-use Rattle.cl_picture.proofs.PlainPieces.{NamesPlain, LinesPlain, names-append, names-flat_map, lines-append, lines-map, lines-flat_map, lines_plain, begin_plain, end_plain, axis_plain}
-use Rattle.cl_draw.specs.declared.chain_lines.Look.{Look}
-use Rattle.cl_draw.specs.declared.marks.Marks.{Marks}
-use Rattle.cl_draw.specs.declared.rows.Row.{Row}
-use Rattle.cl_draw.specs.declared.stops.Reaction.{Reaction}
-use Rattle.cl_draw.specs.declared.stops.Stop.{Stop}
-use Rattle.cl_draw.specs.Places.{row_top, bottom}
-use Rattle.cl_draw.specs.Marks.{marks_of}
-use Rattle.cl_draw.specs.MarkLines.{wait_pieces, arrival_pieces, due_pieces, has_room, arrival_at, arrival_label_line, label_at, mark_lines}
-use Rattle.cl_draw.specs.RowLines.{finish_piece, rest_pieces, words_pieces, bar_head, bar_line, row_lines}
-use Rattle.cl_draw.specs.Rows.{row_at}
-use Rattle.cl_draw.specs.Reactions.{reaction_at}
-use Rattle.cl_draw.specs.ChainLines.{stop_pieces, title_head, reaction_title_line, steps_head, step_pieces_at, steps_line, frame_line, words_left, words_right, words_place, words_rest}
-use Rattle.cl_draw.specs.ChainLines.{words_line, input_line, output_line, length_line, inside_lines, first_stop, last_stop, is_whole_inside, outside_line, shown_lines, open_lines, chain_lines}
+use Rattle.cl_picture.proofs.{BarSides.choose, PlainPieces.{NamesPlain, LinesPlain, names-append, names-flat_map, lines-append, lines-map, lines-flat_map, lines_plain, begin_plain, end_plain, axis_plain}}
+use Rattle.cl_draw.specs.{declared.{chain_lines.Look.Look, marks.Marks.Marks, rows.Row.Row, stops.{Reaction.Reaction, Stop.Stop}}, Places.{row_top, bottom}, Marks.marks_of, MarkLines.{wait_pieces, arrival_pieces, due_pieces, has_room, arrival_at, arrival_label_line, label_at, mark_lines}}
+use Rattle.cl_draw.specs.{RowLines.{finish_piece, rest_pieces, words_pieces, bar_head, bar_line, row_lines}, Rows.row_at, Reactions.reaction_at, ChainLines.{stop_pieces, title_head, reaction_title_line, steps_head, step_pieces_at, steps_line, frame_line, words_left, words_right}}
+use Rattle.cl_draw.specs.{ChainLines.{words_place, words_rest, words_line, input_line, output_line, length_line, inside_lines, first_stop, last_stop, is_whole_inside, outside_line, shown_lines, open_lines, chain_lines}, Picture.{core_head, chains_head, heads, task_name, chain_name}}
+use Rattle.cl_draw.specs.Picture.{by_core, by_cores, names, task_elements, look_of, chain_elements, picture}
 use Rattle.cl_draw.proofs.NamesOf.{of_core, of_task, of_chain, of_runnable}
-use Rattle.cl_draw.specs.Picture.{core_head, chains_head, heads, task_name, chain_name, by_core, by_cores, names, task_elements, look_of, chain_elements, picture}
 
 -- ---- names
 

@@ -1,15 +1,9 @@
 -- What is shown of a longest reaction, stop by stop.
 use Rattle.std.proofs.Common.{◌≡◌, ℕ, ◌<◌, List, length, sym, subst}
 use Rattle.std.specs.Prelude.{slice_index}
-use Rattle.cl_model.specs.declared.group.Group.{Group}
-use Rattle.cl_model.specs.Groups.{group_at}
-use Rattle.cl_runs.specs.TaskTiming.{System}
-use Rattle.cl_runs.specs.Run.{Run}
-use Rattle.cl_runs.specs.Moments.{Writes}
-use Rattle.cl_runs.specs.Chains.{Moments, JobChain, HasWritten, IsForwardChain}
-use Rattle.cl_runs.specs.RunChains.{run_moments}
-use Rattle.cl_draw.specs.declared.stops.Stop.{Stop}
-use Rattle.cl_draw.specs.Reactions.{IsStop, no_stop}
+use Rattle.cl_model.specs.{declared.group.Group.Group, Groups.group_at}
+use Rattle.cl_runs.specs.{TaskTiming.System, Run.Run, Moments.Writes, Chains.{Moments, JobChain, HasWritten, IsForwardChain}, RunChains.run_moments}
+use Rattle.cl_draw.specs.{declared.stops.Stop.Stop, Reactions.{IsStop, no_stop}}
 use Rattle.cl_draw.proofs.FirstItems.{AreFirst}
 
 -- a job that has written

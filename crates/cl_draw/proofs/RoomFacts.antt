@@ -3,9 +3,7 @@ use Rattle.std.proofs.Common.{◌≡◌, ℕ, ◌+◌, ◌<◌, List, length, ge
 use Rattle.std.specs.Prelude.{sum_by}
 use Rattle.std.specs.List.{range_with_len}
 use Rattle.std.proofs.lemmas.List.{get_or_default}
-use Rattle.cl_draw.specs.declared.rows.Row.{Row}
-use Rattle.cl_draw.specs.Lengths.{bars_of_task}
-use Rattle.cl_draw.specs.Rows.{no_row}
+use Rattle.cl_draw.specs.{declared.rows.Row.Row, Lengths.bars_of_task, Rows.no_row}
 use Rattle.cl_draw.proofs.TaskSums.{one_more_number}
 
 -- the bars of a row are those of its task

@@ -8,33 +8,13 @@ use Rattle.std.proofs.lemmas.List.{get_or-map, get_or_default, length-map}
 use Rattle.std.proofs.lemmas.List.Elements.{All-nil, All-cons, All-head, All-tail, All-map, All-filter, filter_passes}
 use Rattle.std.proofs.lemmas.List.FromFn.{length-range_with_len, get_or-range_with_len}
 use Rattle.std.proofs.lemmas.Option.{slice_get-get_or, slice_get_within}
-use Rattle.cl_model.specs.declared.model.SystemModel.{SystemModel}
-use Rattle.cl_model.specs.ByNumber.{task_at, deadline_of}
-use Rattle.cl_runs.specs.TaskTiming.{IsSound, timing_at}
-use Rattle.cl_runs.specs.SystemOf.{system_of}
-use Rattle.cl_runs.specs.Run.{Run, jobs_of, entry_at}
-use Rattle.cl_runs.specs.Table.{job_at}
-use Rattle.cl_runs.specs.Moments.{JobFinishes}
-use Rattle.cl_runs.proofs.ModelSystem.{count_is, system_sound}
-use Rattle.cl_runs.proofs.StartsFinishes.{finish_earliest}
-use Rattle.cl_runs.proofs.JobProgress.{finishes_late}
-use Rattle.cl_runs.proofs.Work.{places_rise, work_rises}
+use Rattle.cl_model.specs.{declared.model.SystemModel.SystemModel, ByNumber.{task_at, deadline_of}}
+use Rattle.cl_runs.specs.{TaskTiming.{IsSound, timing_at}, SystemOf.system_of, Run.{Run, jobs_of, entry_at}, Table.job_at, Moments.JobFinishes}
+use Rattle.cl_runs.proofs.{ModelSystem.{count_is, system_sound}, StartsFinishes.finish_earliest, JobProgress.finishes_late, Work.{places_rise, work_rises}}
 use Rattle.cl_check.specs.JobMoments.{IsMomentOf}
-use Rattle.cl_picture.specs.declared.window.Window.{Window}
-use Rattle.cl_picture.specs.declared.item.Item.{Item}
-use Rattle.cl_picture.specs.declared.item.Bar.{Bar}
-use Rattle.cl_picture.specs.Bars.{counts, bars}
-use Rattle.cl_picture.specs.Shown.{HaveTicks, EndInOrder, FollowEachOther, LieSideBySide, IsUnder}
-use Rattle.cl_picture.specs.Window.{low_of, high_of}
-use Rattle.cl_picture.proofs.Units.{low_mono, high_mono, shares}
-use Rattle.cl_picture.proofs.BarSides.{side_by_side, lie_under}
-use Rattle.cl_draw.specs.declared.parts.Part.{Part}
-use Rattle.cl_draw.specs.declared.rows.Row.{Row}
-use Rattle.cl_draw.specs.Items.{part_item, band, bands}
-use Rattle.cl_draw.specs.Parts.{no_part, part_at, AreParts, AreFinishes}
-use Rattle.cl_draw.specs.Picture.{window_between}
-use Rattle.cl_draw.specs.Rows.{IsRowOf}
-use Rattle.cl_draw.specs.Inner.TaskRuns.{IsTaskRun}
+use Rattle.cl_picture.specs.{declared.{window.Window.Window, item.{Item.Item, Bar.Bar}}, Bars.{counts, bars}, Shown.{HaveTicks, EndInOrder, FollowEachOther, LieSideBySide, IsUnder}, Window.{low_of, high_of}}
+use Rattle.cl_picture.proofs.{Units.{low_mono, high_mono, shares}, BarSides.{side_by_side, lie_under}}
+use Rattle.cl_draw.specs.{declared.{parts.Part.Part, rows.Row.Row}, Items.{part_item, band, bands}, Parts.{no_part, part_at, AreParts, AreFinishes}, Picture.window_between, Rows.IsRowOf, Inner.TaskRuns.IsTaskRun}
 use Rattle.cl_draw.proofs.CursorFacts.{places_are, some_time}
 
 -- ---- lists

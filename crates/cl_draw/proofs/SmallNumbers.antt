@@ -2,23 +2,13 @@
 use Rattle.std.proofs.Common.{ℕ, zero, suc, ◌+◌, ◌<◌, ◌≤◌, List, [], length, arith}
 use Rattle.std.specs.Prelude.{slice_index_or}
 use Rattle.std.proofs.lemmas.Bool.Decides.{nat_tests}
-use Rattle.cl_model.specs.declared.model.SystemModel.{SystemModel}
-use Rattle.cl_model.specs.AreNamed.{AreNamed}
-use Rattle.cl_model.specs.ByNumber.{no_runnable, task_at, chain_at, core_at, core_of}
-use Rattle.cl_model.specs.Name.{IsName}
-use Rattle.cl_model.specs.Validity.{IsValid}
+use Rattle.cl_model.specs.{declared.model.SystemModel.SystemModel, AreNamed.AreNamed, ByNumber.{no_runnable, task_at, chain_at, core_at, core_of}, Name.IsName, Validity.IsValid}
 use Rattle.cl_model.proofs.NamesKnown.{core_within}
-use Rattle.cl_runs.specs.Table.{job_at}
-use Rattle.cl_runs.specs.TaskTiming.{IsSound}
-use Rattle.cl_runs.specs.Run.{Run, jobs_of}
-use Rattle.cl_runs.specs.SystemOf.{system_of}
-use Rattle.cl_runs.proofs.ModelSystem.{count_is, system_sound}
-use Rattle.cl_runs.proofs.RunArrivals.{arrives_below, arrivals_rise}
+use Rattle.cl_runs.specs.{Table.job_at, TaskTiming.IsSound, Run.{Run, jobs_of}, SystemOf.system_of}
+use Rattle.cl_runs.proofs.{ModelSystem.{count_is, system_sound}, RunArrivals.{arrives_below, arrivals_rise}}
 use Rattle.cl_picture.proofs.TextLengths.{HasDigits, IsShortName, digits}
-use Rattle.cl_draw.specs.Places.{core_top, row_top, chain_top, bottom, end_of_chains}
-use Rattle.cl_draw.specs.Inner.TaskRuns.{IsTaskRun}
-use Rattle.cl_draw.proofs.NamesOf.{of_core, of_task, of_chain, of_runnable}
-use Rattle.cl_draw.proofs.PlaceFacts.{top_most, below_few}
+use Rattle.cl_draw.specs.{Places.{core_top, row_top, chain_top, bottom, end_of_chains}, Inner.TaskRuns.IsTaskRun}
+use Rattle.cl_draw.proofs.{NamesOf.{of_core, of_task, of_chain, of_runnable}, PlaceFacts.{top_most, below_few}}
 
 -- ---- names
 

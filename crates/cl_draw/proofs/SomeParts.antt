@@ -2,21 +2,10 @@
 use Rattle.std.proofs.Common.{◌≡◌, ◌≢◌, ℕ, zero, suc, ◌+◌, ◌-◌, ◌<◌, ◌≤◌, ◌⊎◌, inl, inr, Some, List, [], ◌∷◌, ◌++◌, length, refl, subst, arith}
 use Rattle.std.proofs.lemmas.Bool.{cases_lt, cases_eq}
 use Rattle.cl_model.specs.declared.model.SystemModel.{SystemModel}
-use Rattle.cl_runs.specs.TaskTiming.{System, timing_at}
-use Rattle.cl_runs.specs.SystemOf.{system_of}
-use Rattle.cl_runs.specs.Run.{Run, jobs_of, entry_at, executed}
-use Rattle.cl_runs.proofs.Executed.{cases_entry}
-use Rattle.cl_runs.proofs.FirstBelow.{IsFirst, both_or_not, first_or_none}
-use Rattle.cl_draw.specs.declared.cursor.Cursor.{Cursor}
-use Rattle.cl_draw.specs.declared.parts.Part.{Part}
-use Rattle.cl_draw.specs.declared.parts.Work.{Work}
-use Rattle.cl_draw.specs.Parts.{due_in, AreParts, AreFinishes}
-use Rattle.cl_draw.specs.Inner.TaskRuns.{IsTaskRun}
-use Rattle.cl_draw.specs.Inner.Cursors.{time_at, StandsAt, FinishesJob, IsWorkAt, IsCutAt, RunsFrom, IsFurther}
-use Rattle.cl_draw.specs.Inner.Ends.{part_end}
-use Rattle.cl_draw.proofs.CursorFacts.{stands_first, stands_on, stands_in_next_place, stands_in_next_job, going_where_it_runs, runs_over}
-use Rattle.cl_draw.proofs.PartEnds.{IsPartEnd, part_ends}
-use Rattle.cl_draw.proofs.PartFacts.{work_begins, work_rests, further_in_job, further_past_job, all_parts, all_finishes}
+use Rattle.cl_runs.specs.{TaskTiming.{System, timing_at}, SystemOf.system_of, Run.{Run, jobs_of, entry_at, executed}}
+use Rattle.cl_runs.proofs.{Executed.cases_entry, FirstBelow.{IsFirst, both_or_not, first_or_none}}
+use Rattle.cl_draw.specs.{declared.{cursor.Cursor.Cursor, parts.{Part.Part, Work.Work}}, Parts.{due_in, AreParts, AreFinishes}, Inner.{TaskRuns.IsTaskRun, Cursors.{time_at, StandsAt, FinishesJob, IsWorkAt, IsCutAt, RunsFrom, IsFurther}, Ends.part_end}}
+use Rattle.cl_draw.proofs.{CursorFacts.{stands_first, stands_on, stands_in_next_place, stands_in_next_job, going_where_it_runs, runs_over}, PartEnds.{IsPartEnd, part_ends}, PartFacts.{work_begins, work_rests, further_in_job, further_past_job, all_parts, all_finishes}}
 
 -- what a cursor is some ticks on
 record IsOn (system : System) (run : Run) (task : ℕ) (cursor : Cursor) (ticks : ℕ) (next : Cursor) : Type 0 where

@@ -3,34 +3,13 @@ use Rattle.std.proofs.Common.{◌≡◌, ℕ, ◌<◌, inl, inr, Option, Some, N
 use Rattle.std.specs.Prelude.{slice_index}
 use Rattle.std.specs.List.{range_with_len}
 use Rattle.std.proofs.lemmas.List.FromFn.{get_or-map-range_with_len, length-map-range_with_len}
-use Rattle.cl_model.specs.declared.model.SystemModel.{SystemModel}
-use Rattle.cl_model.specs.declared.group.Group.{Group}
-use Rattle.cl_model.specs.ByNumber.{task_at, deadline_of}
-use Rattle.cl_model.specs.Groups.{no_group, group_at, groups_at}
-use Rattle.cl_model.specs.Validity.{IsValid}
+use Rattle.cl_model.specs.{declared.{model.SystemModel.SystemModel, group.Group.Group}, ByNumber.{task_at, deadline_of}, Groups.{no_group, group_at, groups_at}, Validity.IsValid}
 use Rattle.cl_model.proofs.GroupFacts.{groups_at_are, groups_at_some}
-use Rattle.cl_runs.specs.Legal.{IsLegal}
-use Rattle.cl_runs.specs.Run.{Run, jobs_of}
-use Rattle.cl_runs.specs.SystemOf.{system_of}
-use Rattle.cl_runs.specs.Chains.{JobChain, IsForwardChain, first_job}
-use Rattle.cl_runs.specs.RunChains.{run_moments}
-use Rattle.cl_runs.specs.Measured.{IsMeasuredBy}
-use Rattle.cl_chain.proofs.DecidedMoments.{Decided, lt_or_not}
-use Rattle.cl_chain.proofs.SomeMeasured.{run_measured}
-use Rattle.cl_picture.specs.declared.window.Window.{Window}
-use Rattle.cl_picture.specs.Bars.{bars}
-use Rattle.cl_picture.specs.Pieces.{print}
-use Rattle.cl_draw.specs.declared.rows.Row.{Row}
-use Rattle.cl_draw.specs.declared.stops.Stop.{Stop}
-use Rattle.cl_draw.specs.declared.stops.Reaction.{Reaction}
-use Rattle.cl_draw.specs.Items.{part_item, bands}
-use Rattle.cl_draw.specs.Rows.{IsRowOf, no_row}
-use Rattle.cl_draw.specs.Reactions.{no_stop, IsStop, IsShownOf, IsDrawnReaction}
-use Rattle.cl_draw.specs.Picture.{picture, window_between, IsPictureOf}
-use Rattle.cl_draw.specs.Inner.TaskRuns.{IsTaskRun}
-use Rattle.cl_draw.proofs.StopFacts.{reads_somewhere, is_stop}
-use Rattle.cl_draw.proofs.ReactionFacts.{written_at}
-use Rattle.cl_draw.proofs.SomeParts.{some_parts, some_finishes}
+use Rattle.cl_runs.specs.{Legal.IsLegal, Run.{Run, jobs_of}, SystemOf.system_of, Chains.{JobChain, IsForwardChain, first_job}, RunChains.run_moments, Measured.IsMeasuredBy}
+use Rattle.cl_chain.proofs.{DecidedMoments.{Decided, lt_or_not}, SomeMeasured.run_measured}
+use Rattle.cl_picture.specs.{declared.window.Window.Window, Bars.bars, Pieces.print}
+use Rattle.cl_draw.specs.{declared.{rows.Row.Row, stops.{Stop.Stop, Reaction.Reaction}}, Items.{part_item, bands}, Rows.{IsRowOf, no_row}, Reactions.{no_stop, IsStop, IsShownOf, IsDrawnReaction}, Picture.{picture, window_between, IsPictureOf}, Inner.TaskRuns.IsTaskRun}
+use Rattle.cl_draw.proofs.{StopFacts.{reads_somewhere, is_stop}, ReactionFacts.written_at, SomeParts.{some_parts, some_finishes}}
 
 -- what is so of each number below n is so of the items of a list
 module _ {X : Type 0} (Is : ℕ → X → Type 0) (n : ℕ) (none : X) (some : (k : ℕ) → k < n → (x : X) × Is k x) where

@@ -1,14 +1,11 @@
 -- The spans of tasks over the stretches of a core.
-use Rattle.std.proofs.Common.{◌≡◌, ℕ, zero, suc, ◌+◌, ◌-◌, ◌<◌, ◌≤◌, inl, inr, Option, Some, None, List, [], ◌∷◌, ◌++◌, length, get_or, set, refl, sym, ap, subst, ◌∙◌, arith}
+use Rattle.std.proofs.Common.{◌≡◌, ℕ, zero, suc, ◌+◌, ◌-◌, ◌<◌, ◌≤◌, inl, inr, Option, Some, None, List, [], ◌∷◌, ◌++◌, length, get_or, refl, sym, ap, subst, ◌∙◌, arith}
 use Rattle.std.proofs.lemmas.Bool.{cases_lt}
-use Rattle.std.proofs.lemmas.List.{get_or_default, get_or-set_same, get_or-set_other, length-set}
+use Rattle.std.proofs.lemmas.List.{get_or_default}
 use Rattle.cl_runs.proofs.Executed.{cases_entry}
-use Rattle.cl_run_data.specs.declared.stretches.Stretch.{Stretch}
-use Rattle.cl_run_data.specs.Stretches.{entries_from, AreLongest, AreStretchesOf, LastsFrom}
-use Rattle.cl_run_data.proofs.StretchFacts.{neighbours_differ}
-use Rattle.cl_run_data.proofs.StretchEntries.{entry_of_tick, lasts_some, last_ends}
-use Rattle.cl_draw.specs.declared.spans.Span.{Span}
-use Rattle.cl_draw.specs.Inner.Spans.{spans_at, no_span, span_at, RunsIn, HasSpanAt, AreSpansBelow, PutsSpan, PutsCore}
+use Rattle.cl_run_data.specs.{declared.stretches.Stretch.Stretch, Stretches.{entries_from, AreLongest, AreStretchesOf, LastsFrom}}
+use Rattle.cl_run_data.proofs.{StretchFacts.neighbours_differ, StretchEntries.{entry_of_tick, lasts_some, last_ends}}
+use Rattle.cl_draw.specs.{declared.spans.Span.Span, Inner.Spans.{spans_at, no_span, span_at, RunsIn, HasSpanAt, AreSpansBelow, PutsSpan, PutsCore}}
 use Rattle.cl_draw.proofs.Pushed.{count_pushed, kept, added, each_pushed, neighbours_pushed}
 
 -- no spans below the first tick
@@ -191,28 +188,3 @@ module _ (ss : List Stretch) (longest : AreLongest 0 ss) where
       ends (suc before) is =
           let (start, last) = lasts_at ss before (omega (arith, is, all)) in
           put.next before no_stretch is ∙ last_ends (entries_from 0 ss) ss of before start (get_or ss before no_stretch).end last (is ∙ all)
-
--- a span behind those of a task
-pub puts_own : (old new : List (List Span)) (task : ℕ) (span : Span) (list after : List Span) → task < length old → list ≡ get_or old task list
-    → after ≡ list ++ span ∷ [] → new ≡ set old task after → PutsSpan (Some task) span old new
-puts_own old new task span list after within is pushed changed = record {
-  count = ap length changed ∙ length-set old task after;
-  own = λ other h same.
-      let at : task ≡ other = same_task same in
-      subst (λ n. spans_at new n ≡ spans_at old n ++ span ∷ []) at
-      (ap (λ (ss : List (List Span)). get_or ss task []) changed ∙ get_or-set_same old task after [] within ∙ pushed
-      ∙ ap (λ (l : List Span). l ++ span ∷ []) (is ∙ get_or_default old task list [] within));
-  others = λ other apart. ap (λ (ss : List (List Span)). get_or ss other []) changed
-      ∙ get_or-set_other old task other after [] (λ same. apart (ap Some (sym same)));
-}
-  where
-    same_task : {a b : ℕ} → Some a ≡ Some b → a ≡ b
-    same_task is = cc
-
--- and where there is no such task
-pub puts_none : (old : List (List Span)) (who : Option ℕ) (span : Span) → ((task : ℕ) → task < length old → who ≡ Some task → ⊥) → PutsSpan who span old old
-puts_none old who span none = record {
-  count = refl;
-  own = λ task h is. absurd (none task h is);
-  others = λ task apart. refl;
-}

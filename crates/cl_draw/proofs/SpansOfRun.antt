@@ -3,14 +3,10 @@ use Rattle.std.proofs.Common.{◌≡◌, ℕ, ◌+◌, ◌<◌, ◌≤◌, ◌�
 use Rattle.std.proofs.lemmas.Bool.{cases_lt}
 use Rattle.std.proofs.lemmas.List.{get_or_past}
 use Rattle.cl_model.specs.declared.model.SystemModel.{SystemModel}
-use Rattle.cl_runs.specs.TaskTiming.{timing_at}
-use Rattle.cl_runs.specs.SystemOf.{system_of}
-use Rattle.cl_runs.specs.Run.{Run, core_entries, entry_at, IsEntryOf, IsInForm}
+use Rattle.cl_runs.specs.{TaskTiming.timing_at, SystemOf.system_of, Run.{Run, core_entries, entry_at, IsEntryOf, IsInForm}}
 use Rattle.cl_runs.proofs.ModelSystem.{cores_are}
-use Rattle.cl_run_data.specs.declared.stretches.Stretch.{Stretch}
-use Rattle.cl_run_data.specs.Stretches.{entries_from, AreStretchesOf}
-use Rattle.cl_draw.specs.declared.spans.Span.{Span}
-use Rattle.cl_draw.specs.Inner.Spans.{spans_at, AreSpans, AreEmpty, PutsCore}
+use Rattle.cl_run_data.specs.{declared.stretches.Stretch.Stretch, Stretches.{entries_from, AreStretchesOf}}
+use Rattle.cl_draw.specs.{declared.spans.Span.Span, Inner.Spans.{spans_at, AreSpans, AreEmpty, PutsCore}}
 
 -- the core of a task
 abbrev task_core : SystemModel → (task : ℕ) → ℕ

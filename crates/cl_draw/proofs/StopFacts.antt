@@ -1,26 +1,11 @@
 -- When the jobs that carry a reaction read and write.
 use Rattle.std.proofs.Common.{◌≡◌, ℕ, ◌+◌, ◌-◌, ◌<◌, ◌≤◌, Some, List, length, get_or, sym, ap, subst, ◌∙◌, arith}
 use Rattle.std.proofs.lemmas.List.{get_or_default}
-use Rattle.cl_model.specs.declared.model.SystemModel.{SystemModel}
-use Rattle.cl_model.specs.declared.group.Group.{Group}
-use Rattle.cl_model.specs.declared.task.TaskDef.{TaskDef}
-use Rattle.cl_model.specs.declared.task.AccessKind.{AccessKind}
-use Rattle.cl_model.specs.ByNumber.{task_at, deadline_of}
-use Rattle.cl_runs.specs.declared.job.Job.{Job}
-use Rattle.cl_runs.specs.Table.{no_job, job_at}
-use Rattle.cl_runs.specs.TaskTiming.{System, Timing, timing_at}
-use Rattle.cl_runs.specs.SystemOf.{system_of}
-use Rattle.cl_runs.specs.Run.{Run, jobs_of}
-use Rattle.cl_runs.specs.Moments.{Starts, Finishes, WritesAtDeadline, ReadsBy, WritesBy, Reads, Writes}
-use Rattle.cl_runs.specs.RunChains.{run_moments}
-use Rattle.cl_model.specs.Validity.{IsValid}
-use Rattle.cl_runs.specs.Legal.{IsLegal}
-use Rattle.cl_runs.proofs.ModelSystem.{timing_is, range_count_is, system_sound}
-use Rattle.cl_runs.proofs.MomentFacts.{has_read}
-use Rattle.cl_check.specs.declared.job_moments.Moment.{Moment}
-use Rattle.cl_check.specs.JobMoments.{IsMomentOf, no_moment, AreMoments}
-use Rattle.cl_draw.specs.declared.stops.Stop.{Stop}
-use Rattle.cl_draw.specs.Reactions.{IsStop}
+use Rattle.cl_model.specs.{declared.{model.SystemModel.SystemModel, group.Group.Group, task.{TaskDef.TaskDef, AccessKind.AccessKind}}, ByNumber.{task_at, deadline_of}, Validity.IsValid}
+use Rattle.cl_runs.specs.{declared.job.Job.Job, Table.{no_job, job_at}, TaskTiming.{System, Timing, timing_at}, SystemOf.system_of, Run.{Run, jobs_of}, Moments.{Starts, WritesAtDeadline, ReadsBy, WritesBy, Reads, Writes}, RunChains.run_moments, Legal.IsLegal}
+use Rattle.cl_runs.proofs.{ModelSystem.{timing_is, range_count_is, system_sound}, MomentFacts.has_read}
+use Rattle.cl_check.specs.{declared.job_moments.Moment.Moment, JobMoments.{IsMomentOf, no_moment, AreMoments}}
+use Rattle.cl_draw.specs.{declared.stops.Stop.Stop, Reactions.IsStop}
 
 module _ (system : System) (run : Run) (task place : ℕ) (moments slice : List Moment) (are : AreMoments system run task place moments) (same : slice ≡ moments)
     (job : ℕ) (in_table : job < length (jobs_of run task)) (d : Moment) (t : ℕ) where
@@ -30,10 +15,6 @@ module _ (system : System) (run : Run) (task place : ℕ) (moments slice : List 
   pub start_found : (get_or slice job d).start ≡ Some t → Starts system run task job place t
   start_found is = subst (IsMomentOf (Starts system run task job place)) (sym (ap (λ (m : Moment). m.start) found) ∙ is)
       (are.starts job (omega (arith, in_table, are.one_a_job)))
-
-  pub finish_found : (get_or slice job d).finish ≡ Some t → Finishes system run task job place t
-  finish_found is = subst (IsMomentOf (Finishes system run task job place)) (sym (ap (λ (m : Moment). m.finish) found) ∙ is)
-      (are.finishes job (omega (arith, in_table, are.one_a_job)))
 
 -- a job of the table
 pub job_found : (jobs slice : List Job) → slice ≡ jobs → (job : ℕ) → job < length jobs → (d : Job) → get_or slice job d ≡ job_at jobs job

@@ -3,17 +3,9 @@ use Rattle.std.proofs.Common.{◌≡◌, ℕ, zero, suc, ◌+◌, ◌<◌, ◌�
 use Rattle.std.proofs.lemmas.Bool.{cases_lt}
 use Rattle.std.proofs.lemmas.List.{get_or_default}
 use Rattle.cl_model.specs.declared.model.SystemModel.{SystemModel}
-use Rattle.cl_runs.specs.TaskTiming.{System, timing_at}
-use Rattle.cl_runs.specs.SystemOf.{system_of}
-use Rattle.cl_runs.specs.Run.{Run, core_entries, entry_at}
-use Rattle.cl_draw.specs.declared.cursor.Cursor.{Cursor}
-use Rattle.cl_draw.specs.declared.parts.Work.{Work}
-use Rattle.cl_draw.specs.declared.spans.Span.{Span}
-use Rattle.cl_draw.specs.Inner.TaskRuns.{IsTaskRun}
-use Rattle.cl_draw.specs.Inner.Spans.{no_span, span_at, AreSpans}
-use Rattle.cl_draw.specs.Inner.Cursors.{StandsAt, IsWorkAt, IsCutAt, RunsFrom, IsFurther}
-use Rattle.cl_draw.proofs.CursorFacts.{ticks_are}
-use Rattle.cl_draw.proofs.PartFacts.{work_begins, work_rests}
+use Rattle.cl_runs.specs.{TaskTiming.{System, timing_at}, SystemOf.system_of, Run.{Run, core_entries, entry_at}}
+use Rattle.cl_draw.specs.{declared.{cursor.Cursor.Cursor, parts.Work.Work, spans.Span.Span}, Inner.{TaskRuns.IsTaskRun, Spans.{no_span, span_at, AreSpans}, Cursors.{StandsAt, IsWorkAt, IsCutAt, RunsFrom, IsFurther}}}
+use Rattle.cl_draw.proofs.{CursorFacts.ticks_are, PartFacts.{work_begins, work_rests}}
 
 -- in a span, up to a tick
 pub record IsInSpan (system : System) (run : Run) (task : ℕ) (span : Span) (work : Work) (cursor : Cursor) (from : ℕ) : Type 0 where

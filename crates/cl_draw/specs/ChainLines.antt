@@ -1,16 +1,9 @@
 -- The lines of a chain: its longest reaction, over each job that carries it.
 use Rattle.std.specs.Prelude.{ℕ, Bool, Option, Some, None, ◌+◌, ◌-◌, ◌*◌, ◌&&◌, ◌==◌, nat_lt, nat_le, max, if◌then◌else◌, List, [], ◌∷◌, ◌++◌, length, map, codes}
 use Rattle.std.specs.List.{flat_map, range_with_len}
-use Rattle.cl_model.specs.declared.model.SystemModel.{SystemModel}
-use Rattle.cl_model.specs.ByNumber.{task_at}
-use Rattle.cl_picture.specs.Pieces.{Piece, Fixed, Number, Name, Element}
-use Rattle.cl_picture.specs.Window.{x_of}
-use Rattle.cl_picture.specs.Frame.{close_line}
-use Rattle.cl_draw.specs.declared.chain_lines.Look.{Look}
-use Rattle.cl_draw.specs.declared.stops.Stop.{Stop}
-use Rattle.cl_draw.specs.declared.stops.Reaction.{Reaction}
-use Rattle.cl_draw.specs.Places.{row_top}
-use Rattle.cl_draw.specs.Reactions.{stop_at_group}
+use Rattle.cl_model.specs.{declared.model.SystemModel.SystemModel, ByNumber.task_at}
+use Rattle.cl_picture.specs.{Pieces.{Piece, Fixed, Number, Name, Element}, Window.x_of, Frame.close_line}
+use Rattle.cl_draw.specs.{declared.{chain_lines.Look.Look, stops.{Stop.Stop, Reaction.Reaction}}, Places.row_top, Reactions.stop_at_group}
 
 -- ---- heights
 

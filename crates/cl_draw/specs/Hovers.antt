@@ -1,9 +1,7 @@
 -- What the bars of a row say of the items that they show.
 use Rattle.std.specs.Prelude.{ℕ, ◌-◌, List, [], ◌∷◌, ◌++◌, codes}
 use Rattle.cl_model.specs.declared.task.TaskDef.{TaskDef}
-use Rattle.cl_picture.specs.declared.item.Item.{Item}
-use Rattle.cl_picture.specs.declared.item.Bar.{Bar}
-use Rattle.cl_picture.specs.Pieces.{Piece, Fixed, Number, Name}
+use Rattle.cl_picture.specs.{declared.item.{Item.Item, Bar.Bar}, Pieces.{Piece, Fixed, Number, Name}}
 use Rattle.cl_draw.specs.RowLines.{rest_pieces}
 
 -- the name of a job

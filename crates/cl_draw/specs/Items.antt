@@ -1,14 +1,11 @@
 -- The items of a row: the parts of what a task executes, and the bands of its jobs. Times are in ticks.
 use Rattle.std.specs.Prelude.{ℕ, Bool, nat_le, if◌then◌else◌, is_some, unwrap_or, slice_get, slice_index_or, List, length, map}
 use Rattle.std.specs.List.{range_with_len}
-use Rattle.cl_model.specs.declared.task.RunnableDef.{RunnableDef}
-use Rattle.cl_model.specs.ByNumber.{no_runnable}
-use Rattle.cl_runs.specs.declared.job.Job.{Job}
-use Rattle.cl_runs.specs.Table.{job_at}
+use Rattle.cl_model.specs.{declared.task.RunnableDef.RunnableDef, ByNumber.no_runnable}
+use Rattle.cl_runs.specs.{declared.job.Job.Job, Table.job_at}
 use Rattle.cl_picture.specs.declared.item.Item.{Item}
 use Rattle.cl_picture.specs.declared.item.Rest.TheVariants as rest
-use Rattle.cl_draw.specs.declared.parts.Part.{Part}
-use Rattle.cl_draw.specs.Parts.{due_at}
+use Rattle.cl_draw.specs.{declared.parts.Part.Part, Parts.due_at}
 
 -- whether the runnable at a place is whole
 abbrev pub is_whole : List RunnableDef → (place : ℕ) → Bool

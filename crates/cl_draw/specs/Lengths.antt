@@ -1,11 +1,8 @@
 -- How long the text of a picture may be.
 use Rattle.std.specs.Prelude.{ℕ, ◌+◌, ◌*◌, List, length, sum_by}
 use Rattle.std.specs.List.{range_with_len}
-use Rattle.cl_model.specs.declared.model.SystemModel.{SystemModel}
-use Rattle.cl_model.specs.Groups.{groups_at}
-use Rattle.cl_draw.specs.declared.room.TheConstants.{MOST_OF_PICTURE, MOST_OF_CORE, MOST_OF_TASK, MOST_OF_BAR, MOST_OF_CHAIN, MOST_OF_GROUP}
-use Rattle.cl_draw.specs.declared.rows.Row.{Row}
-use Rattle.cl_draw.specs.Rows.{row_at}
+use Rattle.cl_model.specs.{declared.model.SystemModel.SystemModel, Groups.groups_at}
+use Rattle.cl_draw.specs.{declared.{room.TheConstants.{MOST_OF_PICTURE, MOST_OF_CORE, MOST_OF_TASK, MOST_OF_BAR, MOST_OF_CHAIN, MOST_OF_GROUP}, rows.Row.Row}, Rows.row_at}
 
 -- how many bars the row of a task has
 abbrev pub bars_of_task : List Row → (task : ℕ) → ℕ

@@ -1,12 +1,8 @@
 -- The lines of the marks of a row.
 use Rattle.std.specs.Prelude.{ℕ, Bool, ◌+◌, ◌||◌, nat_le, if◌then◌else◌, List, [], ◌∷◌, ◌++◌, length, slice_index_or, codes}
 use Rattle.std.specs.List.{flat_map, range_with_len}
-use Rattle.cl_picture.specs.declared.window.Window.{Window}
-use Rattle.cl_picture.specs.Pieces.{Piece, Fixed, Number, Element}
-use Rattle.cl_picture.specs.Window.{x_of}
-use Rattle.cl_draw.specs.declared.spans.Span.{Span}
-use Rattle.cl_draw.specs.declared.marks.Arrival.{Arrival}
-use Rattle.cl_draw.specs.declared.marks.Marks.{Marks}
+use Rattle.cl_picture.specs.{declared.window.Window.Window, Pieces.{Piece, Fixed, Number, Element}, Window.x_of}
+use Rattle.cl_draw.specs.declared.{spans.Span.Span, marks.{Arrival.Arrival, Marks.Marks}}
 
 -- a wait, from an arrival to a release
 abbrev pub wait_pieces : Window → Span → List Piece

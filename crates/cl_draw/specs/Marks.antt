@@ -1,14 +1,9 @@
 -- The marks of a row: arrivals, deadlines and jitter. Times are in ticks.
 use Rattle.std.specs.Prelude.{ℕ, Bool, ◌+◌, ◌&&◌, nat_lt, if◌then◌else◌, List, [], length, map, filter}
 use Rattle.std.specs.List.{range_with_len}
-use Rattle.cl_runs.specs.declared.job.Job.{Job}
-use Rattle.cl_runs.specs.Table.{job_at}
-use Rattle.cl_picture.specs.declared.window.Window.{Window}
-use Rattle.cl_picture.specs.Window.{is_inside}
-use Rattle.cl_draw.specs.declared.spans.Span.{Span}
-use Rattle.cl_draw.specs.declared.marks.Arrival.{Arrival}
-use Rattle.cl_draw.specs.declared.marks.Marks.{Marks}
-use Rattle.cl_draw.specs.declared.marks.TheConstants.{MOST_ARRIVALS}
+use Rattle.cl_runs.specs.{declared.job.Job.Job, Table.job_at}
+use Rattle.cl_picture.specs.{declared.window.Window.Window, Window.is_inside}
+use Rattle.cl_draw.specs.declared.{spans.Span.Span, marks.{Arrival.Arrival, Marks.Marks, TheConstants.MOST_ARRIVALS}}
 
 -- the arrival of a job
 abbrev pub arrival_of : List Job → (job : ℕ) → Arrival

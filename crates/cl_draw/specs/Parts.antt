@@ -1,10 +1,6 @@
 -- What a task executes in a run, as parts of its stretches, and when its jobs finish. Times are in ticks.
 use Rattle.std.specs.Prelude.{◌≡◌, ℕ, suc, Some, ◌+◌, ◌<◌, ◌≤◌, ◌⊎◌, List, length, slice_index_or, slice_get}
-use Rattle.cl_runs.specs.declared.job.Job.{Job}
-use Rattle.cl_runs.specs.Table.{job_at}
-use Rattle.cl_runs.specs.TaskTiming.{System, timing_at}
-use Rattle.cl_runs.specs.Run.{Run, jobs_of, entry_at}
-use Rattle.cl_runs.specs.Moments.{Executes, JobFinishes}
+use Rattle.cl_runs.specs.{declared.job.Job.Job, Table.job_at, TaskTiming.{System, timing_at}, Run.{Run, jobs_of, entry_at}, Moments.{Executes, JobFinishes}}
 use Rattle.cl_check.specs.JobMoments.{IsMomentOf}
 use Rattle.cl_draw.specs.declared.parts.Part.{Part}
 

@@ -1,21 +1,10 @@
 -- The picture of a window of a run.
 use Rattle.std.specs.Prelude.{◌≡◌, ℕ, zero, suc, Option, ◌+◌, ◌%◌, ◌<◌, List, [], ◌∷◌, ◌++◌, length, map, codes}
 use Rattle.std.specs.List.{flat_map, range_with_len}
-use Rattle.cl_model.specs.declared.model.SystemModel.{SystemModel}
-use Rattle.cl_model.specs.ByNumber.{task_at, chain_at, core_at, tasks_of_core}
+use Rattle.cl_model.specs.{declared.model.SystemModel.SystemModel, ByNumber.{task_at, chain_at, core_at, tasks_of_core}}
 use Rattle.cl_runs.specs.Run.{Run}
-use Rattle.cl_picture.specs.declared.window.Window.{Window}
-use Rattle.cl_picture.specs.Pieces.{Fixed, Number, Name, Element, print}
-use Rattle.cl_picture.specs.Axis.{axis}
-use Rattle.cl_picture.specs.Frame.{begin, end}
-use Rattle.cl_draw.specs.declared.chain_lines.Look.{Look}
-use Rattle.cl_draw.specs.declared.rows.Row.{Row}
-use Rattle.cl_draw.specs.declared.stops.Reaction.{Reaction}
-use Rattle.cl_draw.specs.Places.{core_top, row_top, chains_top, chain_top, bottom}
-use Rattle.cl_draw.specs.Rows.{IsRowOf, row_at}
-use Rattle.cl_draw.specs.RowLines.{row_lines}
-use Rattle.cl_draw.specs.Reactions.{IsDrawnReaction, reaction_at}
-use Rattle.cl_draw.specs.ChainLines.{chain_lines}
+use Rattle.cl_picture.specs.{declared.window.Window.Window, Pieces.{Fixed, Number, Name, Element, print}, Axis.axis, Frame.{begin, end}}
+use Rattle.cl_draw.specs.{declared.{chain_lines.Look.Look, rows.Row.Row, stops.Reaction.Reaction}, Places.{core_top, row_top, chains_top, chain_top, bottom}, Rows.{IsRowOf, row_at}, RowLines.row_lines, Reactions.{IsDrawnReaction, reaction_at}, ChainLines.chain_lines}
 
 -- ---- heads and names
 

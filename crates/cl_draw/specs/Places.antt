@@ -1,8 +1,7 @@
 -- How high the heads and the rows of a picture stand. Heights are lengths from the top.
 use Rattle.std.specs.Prelude.{ℕ, zero, suc, ◌+◌, ◌*◌, length, map, sum}
 use Rattle.std.specs.List.{range_with_len}
-use Rattle.cl_model.specs.declared.model.SystemModel.{SystemModel}
-use Rattle.cl_model.specs.ByNumber.{core_of, tasks_of_core, tasks_of_core_below}
+use Rattle.cl_model.specs.{declared.model.SystemModel.SystemModel, ByNumber.{core_of, tasks_of_core, tasks_of_core_below}}
 use Rattle.cl_draw.specs.declared.places.TheConstants.{FIRST_TOP, HEAD, ROW}
 
 -- the height of a core: its head, and a row for each of its tasks

@@ -1,15 +1,8 @@
 -- The longest reactions of a run, with the moments of the jobs that carry them. Times are in ticks.
 use Rattle.std.specs.Prelude.{◌≡◌, ℕ, Option, Some, None, ◌<◌, List, length, slice_index, slice_index_or}
-use Rattle.cl_model.specs.declared.model.SystemModel.{SystemModel}
-use Rattle.cl_model.specs.declared.group.Group.{Group}
-use Rattle.cl_model.specs.Groups.{group_at, groups_at}
-use Rattle.cl_runs.specs.Run.{Run}
-use Rattle.cl_runs.specs.SystemOf.{system_of}
-use Rattle.cl_runs.specs.Chains.{Moments, JobChain}
-use Rattle.cl_runs.specs.RunChains.{run_moments}
-use Rattle.cl_runs.specs.Measured.{Measured, IsMeasured}
-use Rattle.cl_draw.specs.declared.stops.Stop.{Stop}
-use Rattle.cl_draw.specs.declared.stops.Reaction.{Reaction}
+use Rattle.cl_model.specs.{declared.{model.SystemModel.SystemModel, group.Group.Group}, Groups.{group_at, groups_at}}
+use Rattle.cl_runs.specs.{Run.Run, SystemOf.system_of, Chains.{Moments, JobChain}, RunChains.run_moments, Measured.{Measured, IsMeasured}}
+use Rattle.cl_draw.specs.declared.stops.{Stop.Stop, Reaction.Reaction}
 
 -- what stands past the last stop
 unfoldable pub no_stop : Stop

@@ -1,20 +1,10 @@
 -- The lines of a row: its bars and its marks.
 use Rattle.std.specs.Prelude.{ℕ, Bool, true, false, Option, Some, None, ◌-◌, List, [], ◌∷◌, ◌++◌, slice_index_or, map, codes}
-use Rattle.cl_model.specs.declared.model.SystemModel.{SystemModel}
-use Rattle.cl_model.specs.declared.task.TaskDef.{TaskDef}
-use Rattle.cl_model.specs.ByNumber.{task_at, deadline_of, no_runnable}
+use Rattle.cl_model.specs.{declared.{model.SystemModel.SystemModel, task.TaskDef.TaskDef}, ByNumber.{task_at, deadline_of, no_runnable}}
 use Rattle.cl_runs.specs.Run.{Run, jobs_of}
-use Rattle.cl_picture.specs.declared.window.Window.{Window}
-use Rattle.cl_picture.specs.declared.item.Item.{Item}
-use Rattle.cl_picture.specs.declared.item.Rest.{Rest}
+use Rattle.cl_picture.specs.{declared.{window.Window.Window, item.{Item.Item, Rest.Rest, End.End, Bar.Bar}}, Pieces.{Piece, Fixed, Number, Name, Element}, Frame.{shift_line, close_line}}
 use Rattle.cl_picture.specs.declared.item.Rest.TheVariants as rest
-use Rattle.cl_picture.specs.declared.item.End.{End}
-use Rattle.cl_picture.specs.declared.item.Bar.{Bar}
-use Rattle.cl_picture.specs.Pieces.{Piece, Fixed, Number, Name, Element}
-use Rattle.cl_picture.specs.Frame.{shift_line, close_line}
-use Rattle.cl_draw.specs.declared.rows.Row.{Row}
-use Rattle.cl_draw.specs.Marks.{marks_of}
-use Rattle.cl_draw.specs.MarkLines.{mark_lines}
+use Rattle.cl_draw.specs.{declared.rows.Row.Row, Marks.marks_of, MarkLines.mark_lines}
 
 -- the finish of a band, where it ends with one
 abbrev pub finish_piece : (finished : Bool) → (to : ℕ) → Piece

@@ -1,15 +1,9 @@
 -- The rows of the tasks of a model: their bars.
 use Rattle.std.specs.Prelude.{◌≡◌, ℕ, List, [], map, slice_index_or}
-use Rattle.cl_model.specs.declared.model.SystemModel.{SystemModel}
-use Rattle.cl_model.specs.ByNumber.{task_at, deadline_of}
-use Rattle.cl_runs.specs.Run.{Run, jobs_of}
-use Rattle.cl_runs.specs.SystemOf.{system_of}
-use Rattle.cl_picture.specs.declared.window.Window.{Window}
-use Rattle.cl_picture.specs.Bars.{bars}
-use Rattle.cl_draw.specs.declared.parts.Part.{Part}
-use Rattle.cl_draw.specs.declared.rows.Row.{Row}
-use Rattle.cl_draw.specs.Parts.{AreParts, AreFinishes}
-use Rattle.cl_draw.specs.Items.{part_item, bands}
+use Rattle.cl_model.specs.{declared.model.SystemModel.SystemModel, ByNumber.{task_at, deadline_of}}
+use Rattle.cl_runs.specs.{Run.{Run, jobs_of}, SystemOf.system_of}
+use Rattle.cl_picture.specs.{declared.window.Window.Window, Bars.bars}
+use Rattle.cl_draw.specs.{declared.{parts.Part.Part, rows.Row.Row}, Parts.{AreParts, AreFinishes}, Items.{part_item, bands}}
 
 -- a row shows the bands of the task's jobs, and on them the parts of what the task executes
 pub record IsRowOf (model : SystemModel) (run : Run) (window : Window) (task : ℕ) (row : Row) : Type 0 where

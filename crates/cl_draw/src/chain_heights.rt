@@ -1,7 +1,6 @@
 //! The heights of the lines of a chain. Heights are lengths from the top.
 ghost use Rattle.std.specs.Prelude.{◌≡◌, ◌<◌, ◌≤◌, ◌^◌, length};
-ghost use Rattle.cl_draw.specs.ChainLines.{middle_of, line_of, line_at, half_of, leave};
-ghost use Rattle.cl_draw.specs.Inner.Heights.{ArePlaces};
+ghost use Rattle.cl_draw.specs.{ChainLines.{middle_of, line_of, line_at, half_of, leave}, Inner.Heights.ArePlaces};
 
 use crate::places::Places;
 use crate::stops::Stop;

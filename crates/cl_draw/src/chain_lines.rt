@@ -1,9 +1,7 @@
 //! The lines of a chain: its longest reaction, along the jobs that carry it.
 ghost use Rattle.std.specs.Prelude.{◌≡◌, ◌+◌, ◌++◌, [], ◌∷◌, OnOk};
 ghost use Rattle.cl_picture.specs.Pieces.{print};
-ghost use Rattle.cl_draw.specs.ChainLines.{reaction_lines, group_line, open_lines, none_line, outside_line, shown_lines, chain_lines};
-ghost use Rattle.cl_draw.specs.Inner.Heights.{ArePlaces};
-ghost use Rattle.cl_draw.specs.Inner.Looks.{IsLook, AreStopsOf, IsDrawableReaction};
+ghost use Rattle.cl_draw.specs.{ChainLines.{reaction_lines, group_line, open_lines, none_line, outside_line, shown_lines, chain_lines}, Inner.{Heights.ArePlaces, Looks.{IsLook, AreStopsOf, IsDrawableReaction}}};
 
 use crate::places::Places;
 use crate::reaction_lines::put_inside;

@@ -1,10 +1,8 @@
 //! Where a task stands in the work of its jobs. Times are in ticks.
 ghost use Rattle.std.specs.Prelude.{◌≡◌, ◌≢◌, ℕ, ◌+◌, ◌<◌, ◌≤◌, length};
 ghost use Rattle.cl_model.specs.ByNumber.{task_at};
-ghost use Rattle.cl_runs.specs.Run.{jobs_of, executed};
-ghost use Rattle.cl_runs.specs.SystemOf.{system_of};
-ghost use Rattle.cl_draw.specs.Inner.TaskRuns.{IsTaskRun};
-ghost use Rattle.cl_draw.specs.Inner.Cursors.{time_at, StandsAt, FinishesJob};
+ghost use Rattle.cl_runs.specs.{Run.{jobs_of, executed}, SystemOf.system_of};
+ghost use Rattle.cl_draw.specs.Inner.{TaskRuns.IsTaskRun, Cursors.{time_at, StandsAt, FinishesJob}};
 
 use crate::task_run::TaskRun;
 

@@ -2,15 +2,9 @@
 ghost use Rattle.std.specs.Prelude.{◌≡◌, ◌<◌, ◌≤◌, ◌^◌, ◌*◌, ◌++◌, [], ◌∷◌, length, All, IfOk, OnOk};
 ghost use Rattle.std.specs.List.{flat_map, range_with_len};
 ghost use Rattle.cl_model.specs.Validity.{IsValid};
-ghost use Rattle.cl_picture.specs.declared.window.TheConstants.{MOST_WINDOW};
-ghost use Rattle.cl_picture.specs.Pieces.{print};
-ghost use Rattle.cl_picture.specs.Window.{IsPictureWindow};
-ghost use Rattle.cl_runs.specs.Legal.{IsLegal};
-ghost use Rattle.cl_runs.specs.Run.{Run};
-ghost use Rattle.cl_runs.specs.SystemOf.{system_of};
-ghost use Rattle.cl_draw.specs.Picture.{core_head, chains_head, heads, row_name_line, row_ground_line, name_lines, task_name, chain_name, names, by_cores, task_elements, chain_elements, picture, AreReactions, IsPictureOf};
-ghost use Rattle.cl_draw.specs.Inner.Heights.{ArePlaces};
-ghost use Rattle.cl_draw.specs.Inner.Drawings.{IsDrawing};
+ghost use Rattle.cl_picture.specs.{declared.window.TheConstants.MOST_WINDOW, Pieces.print, Window.IsPictureWindow};
+ghost use Rattle.cl_runs.specs.{Legal.IsLegal, Run.Run, SystemOf.system_of};
+ghost use Rattle.cl_draw.specs.{Picture.{core_head, chains_head, heads, row_name_line, row_ground_line, name_lines, task_name, chain_name, names, by_cores, task_elements, chain_elements, picture, AreReactions, IsPictureOf}, Inner.{Heights.ArePlaces, Drawings.IsDrawing}};
 
 use crate::chain_lines::{Look, put_chain};
 use crate::places::{Places, places_of};

@@ -3,11 +3,8 @@
 ghost use Rattle.std.specs.Prelude.{◌≡◌, ◌<◌, length, map, filter, slice_get, nat_le, All, IfOk};
 ghost use Rattle.cl_model.specs.ByNumber.{task_at, deadline_of};
 ghost use Rattle.cl_runs.specs.Run.{jobs_of};
-ghost use Rattle.cl_picture.specs.Window.{IsPictureWindow};
-ghost use Rattle.cl_picture.specs.Bars.{counts};
-ghost use Rattle.cl_draw.specs.Items.{is_whole, part_kind, part_item, band, bands};
-ghost use Rattle.cl_draw.specs.Parts.{due_at};
-ghost use Rattle.cl_draw.specs.Inner.TaskRuns.{IsTaskRun, IsPartOf, passing};
+ghost use Rattle.cl_picture.specs.{Window.IsPictureWindow, Bars.counts};
+ghost use Rattle.cl_draw.specs.{Items.{is_whole, part_kind, part_item, band, bands}, Parts.due_at, Inner.TaskRuns.{IsTaskRun, IsPartOf, passing}};
 
 use crate::keeping::keep;
 use crate::parts::{Part, due_of};

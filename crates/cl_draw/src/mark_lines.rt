@@ -1,7 +1,6 @@
 //! The lines of the marks of a row.
 ghost use Rattle.std.specs.Prelude.{◌≡◌, ◌<◌, ◌++◌, [], ◌∷◌, length, OnOk};
-ghost use Rattle.cl_picture.specs.Pieces.{spelled, print};
-ghost use Rattle.cl_picture.specs.Window.{IsPictureWindow};
+ghost use Rattle.cl_picture.specs.{Pieces.{spelled, print}, Window.IsPictureWindow};
 ghost use Rattle.cl_draw.specs.MarkLines.{wait_pieces, waits_line, arrival_pieces, arrivals_line, due_pieces, dues_line, has_room, arrival_label_line, label_at, labels, mark_lines};
 
 use crate::marks::{Arrival, Marks};

@@ -3,8 +3,7 @@ ghost use Rattle.std.specs.Prelude.{◌≡◌, ◌<◌, length, IfOk};
 ghost use Rattle.cl_model.specs.ByNumber.{deadline_of};
 ghost use Rattle.cl_runs.specs.Run.{jobs_of};
 ghost use Rattle.cl_picture.specs.Window.{is_inside, IsPictureWindow};
-ghost use Rattle.cl_draw.specs.Marks.{arrival_of, is_seen, arrivals, due_of, dues, wait_of, is_wait, waits, no_marks, marks_of};
-ghost use Rattle.cl_draw.specs.Inner.TaskRuns.{IsTaskRun, passing};
+ghost use Rattle.cl_draw.specs.{Marks.{arrival_of, is_seen, arrivals, due_of, dues, wait_of, is_wait, waits, no_marks, marks_of}, Inner.TaskRuns.{IsTaskRun, passing}};
 
 use crate::keeping::keep;
 use crate::spans::Span;

@@ -1,14 +1,8 @@
 //! What a task executes, and when. Times are in ticks.
 ghost use Rattle.std.specs.Prelude.{◌≡◌, ◌≢◌, ◌<◌, ◌≤◌, ◌^◌, ◌-◌, length, min, MatchOption, IfOk, OnOk};
-ghost use Rattle.cl_runs.specs.Run.{jobs_of, core_entries};
-ghost use Rattle.cl_runs.specs.SystemOf.{system_of};
-ghost use Rattle.cl_runs.specs.TaskTiming.{timing_at};
+ghost use Rattle.cl_runs.specs.{Run.{jobs_of, core_entries}, SystemOf.system_of, TaskTiming.timing_at};
 ghost use Rattle.cl_model.specs.ByNumber.{deadline_of};
-ghost use Rattle.cl_draw.specs.Parts.{due_at, AreParts, AreFinishes};
-ghost use Rattle.cl_draw.specs.Inner.TaskRuns.{IsTaskRun};
-ghost use Rattle.cl_draw.specs.Inner.Spans.{AreSpans};
-ghost use Rattle.cl_draw.specs.Inner.Cursors.{IsWorkAt, IsCutAt, RunsFrom, IsFurther};
-ghost use Rattle.cl_draw.specs.Inner.Ends.{part_end};
+ghost use Rattle.cl_draw.specs.{Parts.{due_at, AreParts, AreFinishes}, Inner.{TaskRuns.IsTaskRun, Spans.AreSpans, Cursors.{IsWorkAt, IsCutAt, RunsFrom, IsFurther}, Ends.part_end}};
 
 use crate::cursor::Cursor;
 use crate::keeping::keep;

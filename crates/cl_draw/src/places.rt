@@ -1,7 +1,6 @@
 //! The heights of the heads and the rows of a picture. Heights are lengths from the top.
 ghost use Rattle.std.specs.Prelude.{◌≡◌, ◌+◌, ◌*◌, ◌<◌, ◌≤◌, ◌^◌, length, map, All, IfOk};
-ghost use Rattle.cl_draw.specs.Places.{core_top, row_top, chain_top, bottom};
-ghost use Rattle.cl_draw.specs.Inner.Heights.{ArePlaces, AreCoreTops, AreRowTops};
+ghost use Rattle.cl_draw.specs.{Places.{core_top, row_top, chain_top, bottom}, Inner.Heights.{ArePlaces, AreCoreTops, AreRowTops}};
 
 use cl_model::{List, ValidModel};
 use cl_time::NoMemory;

@@ -2,9 +2,7 @@
 ghost use Rattle.std.specs.Prelude.{◌≡◌, ◌+◌, ◌<◌, ◌++◌, [], ◌∷◌, length, map, OnOk};
 ghost use Rattle.std.specs.List.{flat_map};
 ghost use Rattle.cl_picture.specs.Pieces.{spelled, print};
-ghost use Rattle.cl_draw.specs.ChainLines.{stop_pieces, title_head, reaction_title_line, falls_line, frame_line, input_line, output_line, length_line, inside_lines};
-ghost use Rattle.cl_draw.specs.Inner.Heights.{ArePlaces};
-ghost use Rattle.cl_draw.specs.Inner.Looks.{IsLook, AreStopsOf};
+ghost use Rattle.cl_draw.specs.{ChainLines.{stop_pieces, title_head, reaction_title_line, falls_line, frame_line, input_line, output_line, length_line, inside_lines}, Inner.{Heights.ArePlaces, Looks.{IsLook, AreStopsOf}}};
 
 use crate::chain_heights::{half_of, line_at, middle_of};
 use crate::chain_lines::Look;

@@ -1,9 +1,7 @@
 //! The steps of a reaction: from the write of each job to the read of the next.
 ghost use Rattle.std.specs.Prelude.{◌≡◌, ◌+◌, ◌<◌, ◌++◌, [], ◌∷◌, length, OnOk};
 ghost use Rattle.cl_picture.specs.Pieces.{spelled, print};
-ghost use Rattle.cl_draw.specs.ChainLines.{steps_head, step_pieces, step_pieces_at, steps_line};
-ghost use Rattle.cl_draw.specs.Inner.Heights.{ArePlaces};
-ghost use Rattle.cl_draw.specs.Inner.Looks.{IsLook, AreStopsOf};
+ghost use Rattle.cl_draw.specs.{ChainLines.{steps_head, step_pieces, step_pieces_at, steps_line}, Inner.{Heights.ArePlaces, Looks.{IsLook, AreStopsOf}}};
 
 use crate::chain_heights::{leave, line_at, middle_of};
 use crate::chain_lines::Look;

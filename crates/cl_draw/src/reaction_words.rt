@@ -1,8 +1,7 @@
 //! The words on a reaction, in the row of its chain.
 ghost use Rattle.std.specs.Prelude.{◌≡◌, ◌+◌, ◌<◌, ◌++◌, [], ◌∷◌, length, OnOk};
 ghost use Rattle.cl_picture.specs.Pieces.{spelled, print};
-ghost use Rattle.cl_draw.specs.ChainLines.{words_place, words_line, words_rest};
-ghost use Rattle.cl_draw.specs.Inner.Looks.{IsLook, AreStopsOf};
+ghost use Rattle.cl_draw.specs.{ChainLines.{words_place, words_line, words_rest}, Inner.Looks.{IsLook, AreStopsOf}};
 
 use crate::chain_lines::Look;
 use crate::stops::{Reaction, Stop, first_stop, last_stop};

@@ -1,10 +1,7 @@
 //! The longest reactions of a run. Times are in ticks.
 ghost use Rattle.std.specs.Prelude.{◌<◌, length, IfOk};
 ghost use Rattle.cl_model.specs.Groups.{groups_at};
-ghost use Rattle.cl_runs.specs.Legal.{IsLegal};
-ghost use Rattle.cl_runs.specs.RunChains.{run_moments};
-ghost use Rattle.cl_runs.specs.Chains.{IsForwardChain};
-ghost use Rattle.cl_runs.specs.SystemOf.{system_of};
+ghost use Rattle.cl_runs.specs.{Legal.IsLegal, RunChains.run_moments, Chains.IsForwardChain, SystemOf.system_of};
 ghost use Rattle.cl_chain.specs.JobChains.{job_chain_of};
 ghost use Rattle.cl_draw.specs.Reactions.{IsShown, IsDrawnReaction};
 

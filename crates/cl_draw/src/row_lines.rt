@@ -1,11 +1,8 @@
 //! The lines of a row: its bars and its marks.
 ghost use Rattle.std.specs.Prelude.{◌≡◌, ◌<◌, ◌++◌, [], ◌∷◌, length, map, All, OnOk};
-ghost use Rattle.cl_picture.specs.Pieces.{spelled, print};
-ghost use Rattle.cl_picture.specs.Window.{IsPictureWindow};
+ghost use Rattle.cl_picture.specs.{Pieces.{spelled, print}, Window.IsPictureWindow};
 ghost use Rattle.cl_model.specs.ByNumber.{task_at};
-ghost use Rattle.cl_draw.specs.RowLines.{finish_piece, part_pieces, band_pieces, last_pieces, rest_pieces, words_pieces, bar_head, bar_line, row_lines};
-ghost use Rattle.cl_draw.specs.Inner.TaskRuns.{IsTaskRun};
-ghost use Rattle.cl_draw.specs.Inner.DrawnBars.{IsSayable, IsDrawableBar};
+ghost use Rattle.cl_draw.specs.{RowLines.{finish_piece, part_pieces, band_pieces, last_pieces, rest_pieces, words_pieces, bar_head, bar_line, row_lines}, Inner.{TaskRuns.IsTaskRun, DrawnBars.{IsSayable, IsDrawableBar}}};
 
 use crate::mark_lines::put_marks;
 use crate::marks::marks_of;

@@ -1,14 +1,8 @@
 //! The rows of the tasks of a model.
 ghost use Rattle.std.specs.Prelude.{◌≡◌, ◌<◌, length, IfOk};
-ghost use Rattle.cl_runs.specs.Legal.{IsLegal};
-ghost use Rattle.cl_runs.specs.Run.{core_entries};
-ghost use Rattle.cl_runs.specs.SystemOf.{system_of};
-ghost use Rattle.cl_runs.specs.TaskTiming.{timing_at};
+ghost use Rattle.cl_runs.specs.{Legal.IsLegal, Run.core_entries, SystemOf.system_of, TaskTiming.timing_at};
 ghost use Rattle.cl_picture.specs.Window.{IsPictureWindow};
-ghost use Rattle.cl_draw.specs.Rows.{IsRowOf};
-ghost use Rattle.cl_draw.specs.Picture.{AreTaskRows};
-ghost use Rattle.cl_draw.specs.Inner.TaskRuns.{IsTaskRun};
-ghost use Rattle.cl_draw.specs.Inner.Spans.{AreSpans};
+ghost use Rattle.cl_draw.specs.{Rows.IsRowOf, Picture.AreTaskRows, Inner.{TaskRuns.IsTaskRun, Spans.AreSpans}};
 
 use crate::items::{bands_in, part_items};
 use crate::parts::work_of;

@@ -1,9 +1,7 @@
 //! When each task of a run runs. Times are in ticks.
 ghost use Rattle.std.specs.Prelude.{◌≡◌, ℕ, ◌<◌, length, Some, IfOk, OnOk};
 ghost use Rattle.cl_run_data.specs.Stretches.{entries_from, AreLongest};
-ghost use Rattle.cl_runs.specs.Run.{IsInForm, core_entries};
-ghost use Rattle.cl_runs.specs.SystemOf.{system_of};
-ghost use Rattle.cl_runs.specs.TaskTiming.{timing_at};
+ghost use Rattle.cl_runs.specs.{Run.{IsInForm, core_entries}, SystemOf.system_of, TaskTiming.timing_at};
 ghost use Rattle.cl_draw.specs.Inner.Spans.{spans_at, AreEmpty, PutsSpan, PutsCore, AreSpans};
 
 use cl_model::{List, ValidModel};

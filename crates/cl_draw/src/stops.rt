@@ -1,15 +1,9 @@
 //! The jobs that carry a reaction, with the moments at which they read and write. Times are in
 //! ticks.
 ghost use Rattle.std.specs.Prelude.{◌≡◌, ℕ, ◌<◌, length, IfOk};
-ghost use Rattle.cl_model.specs.ByNumber.{task_at};
-ghost use Rattle.cl_model.specs.Groups.{IsGroupOf};
-ghost use Rattle.cl_runs.specs.Legal.{IsLegal};
-ghost use Rattle.cl_runs.specs.Moments.{Starts, Finishes, Reads, Writes};
-ghost use Rattle.cl_runs.specs.RunChains.{run_moments};
-ghost use Rattle.cl_runs.specs.SystemOf.{system_of};
-ghost use Rattle.cl_draw.specs.ChainLines.{first_stop, last_stop};
-ghost use Rattle.cl_draw.specs.Reactions.{stop_at_group, IsStop};
-ghost use Rattle.cl_draw.specs.Inner.Looks.{AreKnown};
+ghost use Rattle.cl_model.specs.{ByNumber.task_at, Groups.IsGroupOf};
+ghost use Rattle.cl_runs.specs.{Legal.IsLegal, Moments.{Starts, Finishes, Reads, Writes}, RunChains.run_moments, SystemOf.system_of};
+ghost use Rattle.cl_draw.specs.{ChainLines.{first_stop, last_stop}, Reactions.{stop_at_group, IsStop}, Inner.Looks.AreKnown};
 
 use cl_check::moments;
 use cl_model::{AccessKind, Group, List, ValidModel};

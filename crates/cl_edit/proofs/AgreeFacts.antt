@@ -6,23 +6,10 @@ use Rattle.std.specs.Cmp.Lexicographic.{bytes_decides}
 use Rattle.std.proofs.lemmas.Bool.{false≢true, false_from_ne_true, or_left, or_right}
 use Rattle.std.proofs.lemmas.List.{get_or_default, map_more, take_more}
 use Rattle.std.proofs.lemmas.List.Folds.{list_any-append, list_any_at}
-use Rattle.cl_model.specs.declared.model.LabelDef.{LabelDef}
-use Rattle.cl_model.specs.declared.model.SystemModel.{SystemModel}
-use Rattle.cl_model.specs.declared.model_fault.ModelFault.{ModelFault}
-use Rattle.cl_model.specs.declared.place.Place.{Place}
+use Rattle.cl_model.specs.{declared.{model.{LabelDef.LabelDef, SystemModel.SystemModel}, model_fault.ModelFault.ModelFault, place.Place.Place, refusal.{Code.{Code, TheVariants.{M37, M38, M40}}, Refusal.Refusal}, task.{RunnableDef.RunnableDef, TaskDef.TaskDef}}, Answers.Answers}
+use Rattle.cl_model.specs.{ByNumber.no_runnable, Named.{same_name, has_name, label_names, all_runnables, labels_written}, NameSets.names_with, Place.{at_key, at_sub, at_spot}, Refusals.{when, unless, each}, ValidTasks.{label_check, writer_check, times_check, reads_check, writes_check}}
+use Rattle.cl_model.specs.ValidTasks.{twice_check, contest_check, runnable_checks, body_check, body_checks}
 use Rattle.cl_model.specs.declared.place.Key.TheVariants as key
-use Rattle.cl_model.specs.declared.refusal.Code.{Code}
-use Rattle.cl_model.specs.declared.refusal.Code.TheVariants.{M37, M38, M40}
-use Rattle.cl_model.specs.declared.refusal.Refusal.{Refusal}
-use Rattle.cl_model.specs.declared.task.RunnableDef.{RunnableDef}
-use Rattle.cl_model.specs.declared.task.TaskDef.{TaskDef}
-use Rattle.cl_model.specs.Answers.{Answers}
-use Rattle.cl_model.specs.ByNumber.{no_runnable}
-use Rattle.cl_model.specs.Named.{same_name, has_name, label_names, all_runnables, labels_written}
-use Rattle.cl_model.specs.NameSets.{names_with}
-use Rattle.cl_model.specs.Place.{at_key, at_sub, at_spot}
-use Rattle.cl_model.specs.Refusals.{when, unless, each}
-use Rattle.cl_model.specs.ValidTasks.{label_check, writer_check, times_check, reads_check, writes_check, twice_check, contest_check, runnable_checks, body_check, body_checks}
 use Rattle.cl_model.proofs.ListFacts.{list_any-flat_map}
 use Rattle.cl_valid.proofs.UsesByTask.{flat_more}
 use Rattle.cl_edit.specs.Inner.NewTasks.{labels_of, AreAlike, AgreeOn}

@@ -3,30 +3,14 @@ use Rattle.std.proofs.Common.{◌≡◌, ℕ, ◌<◌, List, [], ◌∷◌, ◌+
 use Rattle.std.specs.Prelude.{Some}
 use Rattle.std.specs.List.{remove}
 use Rattle.std.proofs.lemmas.List.{map-append, length-map}
-use Rattle.cl_model.specs.declared.chain.ChainDef.{ChainDef}
-use Rattle.cl_model.specs.declared.chain.RequirementDef.{RequirementDef}
-use Rattle.cl_model.specs.declared.model.SystemModel.{SystemModel}
-use Rattle.cl_model.specs.declared.place.Place.{Place}
+use Rattle.cl_model.specs.{declared.{chain.{ChainDef.ChainDef, RequirementDef.RequirementDef}, model.SystemModel.SystemModel, place.Place.Place, refusal.Code.TheVariants.{M25, M46}}, ByNumber.{no_chain, chain_at}, Named.{same_name, has_name, index_of, chain_names}, Place.entry_of}
+use Rattle.cl_model.specs.{Place.at_key, Refusals.{when, unless, each}, ValidNames.{section_repeats, stimulus_checks, name_checks}, ValidTasks.{naming_checks, task_check, task_checks, deadline_checks}, Validity.{IsValid, chain_check, requirement_check, refusals_of}, Changes.with_new_chain}
+use Rattle.cl_model.specs.Changes.{without_chain}
 use Rattle.cl_model.specs.declared.place.Part.TheVariants as part
 use Rattle.cl_model.specs.declared.place.Key.TheVariants as key
-use Rattle.cl_model.specs.declared.refusal.Code.TheVariants.{M25, M46}
-use Rattle.cl_model.specs.ByNumber.{no_chain, chain_at}
-use Rattle.cl_model.specs.Named.{same_name, has_name, index_of, chain_names}
-use Rattle.cl_model.specs.Place.{entry_of, at_key}
-use Rattle.cl_model.specs.Refusals.{when, unless, each}
-use Rattle.cl_model.specs.ValidNames.{section_repeats, stimulus_checks, name_checks}
-use Rattle.cl_model.specs.ValidTasks.{naming_checks, task_check, task_checks, deadline_checks}
-use Rattle.cl_model.specs.Validity.{IsValid, chain_check, requirement_check, refusals_of}
-use Rattle.cl_model.proofs.NamePlaces.{found_below, own_entry}
-use Rattle.cl_model.proofs.NamesApart.{chains_apart}
-use Rattle.cl_model.proofs.PassedChecks.{stimuli_pass, tasks_pass, deadlines_pass, chains_pass, requirements_pass}
-use Rattle.cl_model.proofs.Refused.{unless_none, each_none}
-use Rattle.cl_model.specs.Changes.{with_new_chain, without_chain}
+use Rattle.cl_model.proofs.{NamePlaces.{found_below, own_entry}, NamesApart.chains_apart, PassedChecks.{stimuli_pass, tasks_pass, deadlines_pass, chains_pass, requirements_pass}, Refused.{unless_none, each_none}, Removals.{stood_at, apart_removed}}
 use Rattle.cl_edit.specs.FewListChecks.{new_chain_name_check, new_chain_checks, kept_chain_check, dropped_chain_checks}
-use Rattle.cl_edit.proofs.CheckParts.{name_parts, chain_names_left, names_and_chains_left, requirements_left, chain_moves}
-use Rattle.cl_edit.proofs.EachChecked.{each_more, each_same, none_of_each, each_moves, unless_true, unless_not}
-use Rattle.cl_edit.proofs.NameChecks.{apart_pass, repeats_more, map-remove, left_names, known_longer}
-use Rattle.cl_model.proofs.Removals.{stood_at, apart_removed}
+use Rattle.cl_edit.proofs.{CheckParts.{name_parts, chain_names_left, names_and_chains_left, requirements_left, chain_moves}, EachChecked.{each_more, each_same, none_of_each, each_moves, unless_true, unless_not}, NameChecks.{apart_pass, repeats_more, map-remove, left_names, known_longer}}
 
 -- ---- chains change nothing of the parts before them
 

@@ -6,17 +6,9 @@ use Rattle.std.specs.Cmp.Lexicographic.{bytes_decides}
 use Rattle.std.proofs.lemmas.Bool.{eqb-true, eqb-false, eq-eqb, false≢true}
 use Rattle.std.proofs.lemmas.List.{length-set, length-map, get_or-set_same, get_or-set_other}
 use Rattle.std.proofs.lemmas.Option.{slice_get-get_or}
-use Rattle.cl_model.specs.declared.model.SystemModel.{SystemModel}
-use Rattle.cl_model.specs.declared.stimulus.StimulusDef.{StimulusDef}
-use Rattle.cl_model.specs.declared.stimulus.StimulusKind.{StimulusKind}
-use Rattle.cl_model.specs.ByNumber.{no_stimulus, no_task, task_at, stimulus_of}
-use Rattle.cl_model.specs.Changes.{no_stimulus_def, stimulus_at, with_kind}
-use Rattle.cl_model.specs.Named.{index_of, stimulus_names, kind_named}
+use Rattle.cl_model.specs.{declared.{model.SystemModel.SystemModel, stimulus.{StimulusDef.StimulusDef, StimulusKind.StimulusKind}}, ByNumber.{no_stimulus, no_task, task_at, stimulus_of}, Changes.{no_stimulus_def, stimulus_at, with_kind}, Named.{index_of, stimulus_names, kind_named}}
 use Rattle.cl_model.specs.Validity.{IsValid}
-use Rattle.cl_model.proofs.NamePlaces.{found_below, own_entry, entry_found}
-use Rattle.cl_model.proofs.NamesApart.{stimuli_apart}
-use Rattle.cl_model.proofs.NamesKnown.{stimulus_known}
-use Rattle.cl_model.proofs.ListFacts.{same_tests}
+use Rattle.cl_model.proofs.{NamePlaces.{found_below, own_entry, entry_found}, NamesApart.stimuli_apart, NamesKnown.stimulus_known, ListFacts.same_tests}
 use Rattle.cl_edit.specs.Inner.Paces.{is_on}
 use Rattle.cl_edit.proofs.TaskSetters.{map_set_same}
 

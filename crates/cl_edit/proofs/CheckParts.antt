@@ -1,20 +1,11 @@
 -- The refusals of a model by their parts, and which parts are left where the others refuse nothing.
 use Rattle.std.proofs.Common.{◌≡◌, ℕ, List, [], ◌∷◌, ◌++◌, refl, ap}
 use Rattle.std.proofs.lemmas.List.{append-nil}
-use Rattle.cl_model.specs.declared.chain.ChainDef.{ChainDef}
-use Rattle.cl_model.specs.declared.model.SystemModel.{SystemModel}
+use Rattle.cl_model.specs.{declared.{chain.ChainDef.ChainDef, model.SystemModel.SystemModel, refusal.{Code.TheVariants.{M20, M21, M22, M23, M25, M26}, Refusal.Refusal}}, Named.{core_names, stimulus_names, label_names, task_names, chain_names, requirement_names}, Place.{entry_of, at_key}}
+use Rattle.cl_model.specs.{Refusals.each, ValidNames.{section_repeats, runnable_repeats, name_checks, stimulus_checks}, ValidTasks.{task_checks, deadline_checks}, Validity.{IsValid, lengths_check, step_check, hop_check, chain_check, requirement_check, refusals_of}}
 use Rattle.cl_model.specs.declared.place.Part.TheVariants as part
 use Rattle.cl_model.specs.declared.place.Key.TheVariants as key
-use Rattle.cl_model.specs.declared.refusal.Code.TheVariants.{M20, M21, M22, M23, M25, M26}
-use Rattle.cl_model.specs.declared.refusal.Refusal.{Refusal}
-use Rattle.cl_model.specs.Named.{core_names, stimulus_names, label_names, task_names, chain_names, requirement_names}
-use Rattle.cl_model.specs.Place.{entry_of, at_key}
-use Rattle.cl_model.specs.Refusals.{each}
-use Rattle.cl_model.specs.ValidNames.{section_repeats, runnable_repeats, name_checks, stimulus_checks}
-use Rattle.cl_model.specs.ValidTasks.{task_checks, deadline_checks}
-use Rattle.cl_model.specs.Validity.{IsValid, lengths_check, step_check, hop_check, chain_check, requirement_check, refusals_of}
-use Rattle.cl_model.proofs.NoRefusals.{AllNone, all_none, none_in_order}
-use Rattle.cl_model.proofs.PassedChecks.{names_pass}
+use Rattle.cl_model.proofs.{NoRefusals.{AllNone, all_none, none_in_order}, PassedChecks.names_pass}
 use Rattle.cl_edit.proofs.EachChecked.{when_moves, unless_moves, each_moves}
 
 -- ---- names

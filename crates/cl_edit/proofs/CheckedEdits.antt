@@ -1,15 +1,8 @@
 -- What the checks of an edit and of the changed model say of the edited model.
 use Rattle.std.proofs.Common.{◌≡◌, List, [], ◌∷◌, ◌++◌, ap}
 use Rattle.std.specs.Prelude.{Some, Ok, Err}
-use Rattle.cl_model.specs.declared.model.SystemModel.{SystemModel}
-use Rattle.cl_model.specs.declared.model_fault.ModelFault.{ModelFault}
-use Rattle.cl_model.specs.declared.model_fault.ModelFault.TheVariants.{Refused, NoMemory}
-use Rattle.cl_model.specs.declared.refusal.Refusal.{Refusal}
-use Rattle.cl_model.specs.Answers.{IsFaultOf, Gives}
-use Rattle.cl_model.specs.Refusals.{first, answer}
-use Rattle.cl_model.specs.Validity.{refusals_of}
-use Rattle.cl_edit.specs.declared.edit.Edit.{Edit}
-use Rattle.cl_edit.specs.Edited.{edit_checks, with_edit, edited}
+use Rattle.cl_model.specs.{declared.{model.SystemModel.SystemModel, model_fault.ModelFault.{ModelFault, TheVariants.{Refused, NoMemory}}, refusal.Refusal.Refusal}, Answers.{IsFaultOf, Gives}, Refusals.{first, answer}, Validity.refusals_of}
+use Rattle.cl_edit.specs.{declared.edit.Edit.Edit, Edited.{edit_checks, with_edit, edited}}
 
 refused_where_first : (checks : List Refusal) (meaning : SystemModel) (refusal : Refusal) → first checks ≡ Some refusal → answer checks meaning ≡ Err refusal
 refused_where_first [] meaning refusal is = absurd cc

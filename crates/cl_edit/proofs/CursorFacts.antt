@@ -3,18 +3,9 @@ use Rattle.std.proofs.Common.{◌≡◌, ◌≢◌, ℕ, ◌+◌, ◌^◌, ◌<�
 use Rattle.std.specs.Prelude.{codes, filter, ◌==◌, is_some, not}
 use Rattle.std.specs.List.{join_with_byte}
 use denote.Bor.{Bor}
-use Rattle.cl_edit.specs.declared.cursor.Cursor.{Cursor}
-use Rattle.cl_edit.specs.declared.edit.Edit.{Edit}
-use Rattle.cl_edit.specs.declared.edit_lines.ListedEdit.{ListedEdit}
-use Rattle.cl_edit.specs.declared.version.Version.{Version}
-use Rattle.cl_edit.specs.declared.version.Version.TheVariants.{One, Two}
-use Rattle.cl_edit.specs.Said.{Said, lines, is_blank, has_bytes, words_of, plain, says, unended, ended_from, spoken_from, said_from, IsTitle, IsTitled}
-use Rattle.cl_edit.specs.Inner.Left.{lines_left, said_in, HasNumbers, version_in, AreBehindTitle, IsTaken, IsNoneTaken, SaysThis, ReadsFirst, SaysNone}
-use Rattle.cl_edit.specs.Inner.LineReads.{fields_in, words_in, edit_in}
-use Rattle.cl_edit.specs.Inner.Parts.{parts}
-use Rattle.cl_edit.proofs.FirstLists.{said_at, ended_more, joined_lines}
-use Rattle.cl_edit.proofs.LineMeanings.{edit_back, edit_said}
-use Rattle.cl_edit.proofs.Titles.{some_line, last_left, titled_by}
+use Rattle.cl_edit.specs.{declared.{cursor.Cursor.Cursor, edit.Edit.Edit, edit_lines.ListedEdit.ListedEdit, version.Version.{Version, TheVariants.{One, Two}}}, Said.{Said, lines, is_blank, has_bytes, words_of, plain, says, unended, ended_from, spoken_from, said_from, IsTitle, IsTitled}}
+use Rattle.cl_edit.specs.Inner.{Left.{lines_left, said_in, HasNumbers, version_in, AreBehindTitle, IsTaken, IsNoneTaken, SaysThis, ReadsFirst, SaysNone}, LineReads.{fields_in, words_in, edit_in}, Parts.parts}
+use Rattle.cl_edit.proofs.{FirstLists.{said_at, ended_more, joined_lines}, LineMeanings.{edit_back, edit_said}, Titles.{some_line, last_left, titled_by}}
 
 -- ---- no line is left
 

@@ -1,12 +1,8 @@
 -- Checks of each item of a list: what they refuse where items are added or checks are changed.
 use Rattle.std.proofs.Common.{◌≡◌, ℕ, ◌+◌, ◌<◌, Bool, true, false, not, List, [], ◌∷◌, ◌++◌, length, get_or, refl, sym, ap, ◌∙◌, append_assoc, arith}
 use Rattle.std.proofs.lemmas.List.{append-nil}
-use Rattle.cl_model.specs.declared.place.Place.{Place}
-use Rattle.cl_model.specs.declared.refusal.Code.{Code}
-use Rattle.cl_model.specs.declared.refusal.Refusal.{Refusal}
-use Rattle.cl_model.specs.Refusals.{when, unless, each_from, each}
-use Rattle.cl_model.proofs.Refused.{none_before, none_behind, when_none}
-use Rattle.cl_model.proofs.EachFacts.{each_alike, each_nothing}
+use Rattle.cl_model.specs.{declared.{place.Place.Place, refusal.{Code.Code, Refusal.Refusal}}, Refusals.{when, unless, each_from, each}}
+use Rattle.cl_model.proofs.{Refused.{none_before, none_behind, when_none}, EachFacts.{each_alike, each_nothing}}
 
 -- ---- one item more
 

@@ -1,17 +1,9 @@
 -- What an edit in range makes of a valid model is valid.
 use Rattle.std.proofs.Common.{◌≡◌, List, [], ◌∷◌, ◌++◌, refl, ap, subst}
 use Rattle.std.specs.Prelude.{Result, Ok, Err}
-use Rattle.cl_model.specs.declared.model.SystemModel.{SystemModel}
-use Rattle.cl_model.specs.declared.refusal.Refusal.{Refusal}
-use Rattle.cl_model.specs.Refusals.{answer}
-use Rattle.cl_model.specs.Validity.{refusals_of, IsValid}
-use Rattle.cl_edit.specs.declared.edit.Edit.{Edit}
-use Rattle.cl_edit.specs.declared.edit.Edit.TheVariants.{Report}
-use Rattle.cl_edit.specs.Changing.{change_of}
-use Rattle.cl_edit.specs.Edited.{edit_checks, with_edit, edited}
-use Rattle.cl_edit.specs.Ranges.{IsEditInRange}
-use Rattle.cl_edit.proofs.CheckedEdits.{made_where_passes}
-use Rattle.cl_edit.proofs.RangeFacts.{edits_keep_range}
+use Rattle.cl_model.specs.{declared.{model.SystemModel.SystemModel, refusal.Refusal.Refusal}, Refusals.answer, Validity.{refusals_of, IsValid}}
+use Rattle.cl_edit.specs.{declared.edit.Edit.{Edit, TheVariants.Report}, Changing.change_of, Edited.{edit_checks, with_edit, edited}, Ranges.IsEditInRange}
+use Rattle.cl_edit.proofs.{CheckedEdits.made_where_passes, RangeFacts.edits_keep_range}
 
 -- the model that is answered, or this one
 abbrev model_or : SystemModel → Result SystemModel Refusal → SystemModel

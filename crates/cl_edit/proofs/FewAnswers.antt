@@ -1,18 +1,10 @@
 -- What a few checks answer is what all checks of the changed model answer.
 use Rattle.std.proofs.Common.{◌≡◌, ℕ, Bool, List, [], sym, ◌∙◌, subst}
 use Rattle.std.specs.Prelude.{Result, Ok, Err}
-use Rattle.cl_model.specs.declared.group.Step.{Step}
-use Rattle.cl_model.specs.declared.model.SystemModel.{SystemModel}
-use Rattle.cl_model.specs.declared.model_fault.ModelFault.{ModelFault}
-use Rattle.cl_model.specs.declared.refusal.Refusal.{Refusal}
-use Rattle.cl_model.specs.declared.task.AccessKind.{AccessKind}
-use Rattle.cl_model.specs.Answers.{Answers, Passes}
-use Rattle.cl_model.specs.Validity.{IsValid, refusals_of}
-use Rattle.cl_edit.specs.declared.change.Change.{Change}
+use Rattle.cl_model.specs.{declared.{group.Step.Step, model.SystemModel.SystemModel, model_fault.ModelFault.ModelFault, refusal.Refusal.Refusal, task.AccessKind.AccessKind}, Answers.{Answers, Passes}, Validity.{IsValid, refusals_of}}
+use Rattle.cl_edit.specs.{declared.change.Change.Change, Changing.{with_change, IsChangeOf}}
 use Rattle.cl_edit.specs.declared.change.Change.TheVariants as changes
-use Rattle.cl_edit.specs.Changing.{with_change, IsChangeOf}
-use Rattle.cl_edit.proofs.RequirementLaws.{requirement_dropped}
-use Rattle.cl_edit.proofs.TaskSetters.{access_needs_none, whole_needs_none}
+use Rattle.cl_edit.proofs.{RequirementLaws.requirement_dropped, TaskSetters.{access_needs_none, whole_needs_none}}
 
 -- the few checks are those of the changed model
 pub passes_as : (result : Result (Unit {0}) ModelFault) (few refusals : List Refusal) → refusals ≡ few → Answers result few tt → Passes result refusals

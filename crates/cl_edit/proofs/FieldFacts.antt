@@ -13,24 +13,11 @@ use Rattle.std.specs.Char.{IsAsciiDigit}
 use Rattle.std.specs.Option.{option_map}
 use Rattle.std.proofs.lemmas.List.Sums.{list_all-from_AllPass}
 use Rattle.cl_text.specs.Line.{is_graphic}
-use Rattle.cl_text.proofs.LineLemmas.{graphic_decimal}
-use Rattle.cl_text.proofs.DecimalLemmas.{grammar_of_decimal}
-use Rattle.cl_model.specs.declared.limits.TheConstants.{MOST_TICKS, MOST_PRIORITY, MOST_REQUIRED, LEAST_JOBS_OF_BURST, MOST_JOBS_OF_BURST}
-use Rattle.cl_model.specs.declared.task.AccessKind.{AccessKind}
-use Rattle.cl_model.specs.declared.task.AccessKind.TheVariants.{Explicit, Implicit, Timed}
-use Rattle.cl_model.specs.Ranges.{IsTime, IsBurstCount}
-use Rattle.cl_model.specs.Name.{is_name_byte, is_name, IsName}
-use Rattle.cl_model.specs.declared.chain.LengthKind.TheVariants.{Reaction, Age, Reduced}
-use Rattle.cl_model.specs.declared.chain.RequirementKind.{RequirementKind}
-use Rattle.cl_model.specs.declared.chain.RequirementKind.TheVariants.{Length, Delay}
-use Rattle.cl_model.specs.Kinds.{access_word, requirement_word}
-use Rattle.cl_model.specs.Reading.Checks.{meaning_of}
-use Rattle.cl_model.proofs.ListFacts.{both_pass}
-use Rattle.cl_model.proofs.Names.{name_bytes}
-use Rattle.cl_edit.specs.Said.{has_bytes}
-use Rattle.cl_edit.specs.Lines.{flag_word, deadline_word}
-use Rattle.cl_edit.specs.Inner.Parts.{parts}
-use Rattle.cl_edit.specs.Inner.Fields.{name_in, number_in, time_in, flag_in, access_in, deadline_in, names_in, requirement_kind_in}
+use Rattle.cl_text.proofs.{LineLemmas.graphic_decimal, DecimalLemmas.grammar_of_decimal}
+use Rattle.cl_model.specs.declared.{limits.TheConstants.{MOST_TICKS, MOST_PRIORITY, MOST_REQUIRED, LEAST_JOBS_OF_BURST, MOST_JOBS_OF_BURST}, task.AccessKind.{AccessKind, TheVariants.{Explicit, Implicit, Timed}}, chain.LengthKind.TheVariants.{Reaction, Age, Reduced}}
+use Rattle.cl_model.specs.{declared.chain.RequirementKind.{RequirementKind, TheVariants.{Length, Delay}}, Ranges.{IsTime, IsBurstCount}, Name.{is_name_byte, is_name, IsName}, Kinds.{access_word, requirement_word}, Reading.Checks.meaning_of}
+use Rattle.cl_model.proofs.{ListFacts.both_pass, Names.name_bytes}
+use Rattle.cl_edit.specs.{Said.has_bytes, Lines.{flag_word, deadline_word}, Inner.{Parts.parts, Fields.{name_in, number_in, time_in, flag_in, access_in, deadline_in, names_in, requirement_kind_in}}}
 
 -- a choice of a value or none
 pub chosen : {X : Type 0} (b : Bool) (x y : X) → cond b (Some x) None ≡ Some y → (b ≡ true) × (x ≡ y)

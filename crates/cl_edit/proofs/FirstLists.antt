@@ -5,19 +5,9 @@ use Rattle.std.specs.List.{flat_map, join_with_byte}
 use Rattle.std.proofs.lemmas.List.Elements.{All-head, All-tail}
 use Rattle.memchr.specs.Find.{is_byte}
 use Rattle.cl_text.specs.Line.{line}
-use Rattle.cl_edit.specs.declared.edit.Edit.{Edit}
-use Rattle.cl_edit.specs.declared.edit_lines.ListedEdit.{ListedEdit}
-use Rattle.cl_edit.specs.declared.version.Version.TheVariants.{One, Two}
-use Rattle.cl_edit.specs.FirstLists.{AreNumberedFrom, IsFirstList}
-use Rattle.cl_edit.specs.Lines.{edit_text}
-use Rattle.cl_edit.specs.Reading.{IsLineEdit, MayBeListed, edits_of, said_of, AreEditsOf}
-use Rattle.cl_edit.specs.Said.{Said, lines, plain, says, unended, ended_from, spoken_from, said_from, IsTitled}
-use Rattle.cl_edit.specs.Inner.Parts.{parts}
-use Rattle.cl_edit.proofs.LineMeanings.{of_later}
-use Rattle.cl_edit.proofs.PartFacts.{Lacks, part_before, joined_parts}
-use Rattle.cl_edit.proofs.NamesFacts.{lacks_of}
-use Rattle.cl_edit.proofs.PlainLines.{edit_lacks, plain_edit, says_edit}
-use Rattle.cl_edit.proofs.Titles.{some_line, one_title}
+use Rattle.cl_edit.specs.{declared.{edit.Edit.Edit, edit_lines.ListedEdit.ListedEdit, version.Version.TheVariants.{One, Two}}, FirstLists.{AreNumberedFrom, IsFirstList}, Lines.edit_text, Reading.{IsLineEdit, MayBeListed, edits_of, said_of, AreEditsOf}, Said.{Said, lines, plain, says}}
+use Rattle.cl_edit.specs.{Said.{unended, ended_from, spoken_from, said_from, IsTitled}, Inner.Parts.parts}
+use Rattle.cl_edit.proofs.{LineMeanings.of_later, PartFacts.{Lacks, part_before, joined_parts}, NamesFacts.lacks_of, PlainLines.{edit_lacks, plain_edit, says_edit}, Titles.{some_line, one_title}}
 
 -- ---- lines of edits
 

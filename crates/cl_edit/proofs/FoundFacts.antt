@@ -2,19 +2,9 @@
 use Rattle.std.proofs.Common.{◌≡◌, ℕ, Bool, true, false, List, [], refl, sym, ◌∙◌, ap, subst}
 use Rattle.std.specs.Prelude.{Option, Some, None, unwrap_or, slice_get}
 use Rattle.std.specs.Option.{option_map, option_and_then}
-use Rattle.cl_model.specs.declared.refusal.Code.TheVariants.{E2, E3}
-use Rattle.cl_model.specs.declared.refusal.Refusal.{Refusal}
-use Rattle.cl_model.specs.declared.model.SystemModel.{SystemModel}
-use Rattle.cl_model.specs.declared.model_fault.ModelFault.{ModelFault}
-use Rattle.cl_model.specs.declared.model_fault.ModelFault.TheVariants.{Refused}
-use Rattle.cl_model.specs.declared.stimulus.StimulusKind.{StimulusKind}
-use Rattle.cl_model.specs.Answers.{IsFaultOf}
-use Rattle.cl_model.specs.Changes.{stimulus_at}
-use Rattle.cl_model.specs.Named.{has_name, index_of, stimulus_names, kind_named}
-use Rattle.cl_model.specs.Place.{top}
-use Rattle.cl_model.specs.Refusals.{first, unless}
-use Rattle.cl_model.proofs.NamePlaces.{known_place, found_stands, stands_known}
-use Rattle.cl_model.proofs.NamesKnown.{kind_there}
+use Rattle.cl_model.specs.{declared.{refusal.{Code.TheVariants.{E2, E3}, Refusal.Refusal}, model.SystemModel.SystemModel, model_fault.ModelFault.{ModelFault, TheVariants.Refused}, stimulus.StimulusKind.StimulusKind}, Answers.IsFaultOf, Changes.stimulus_at, Named.{has_name, index_of}}
+use Rattle.cl_model.specs.{Named.{stimulus_names, kind_named}, Place.top, Refusals.{first, unless}}
+use Rattle.cl_model.proofs.{NamePlaces.{known_place, found_stands, stands_known}, NamesKnown.kind_there}
 use Rattle.cl_edit.specs.Edited.{found, kind_found}
 
 not_true : (b : Bool) → (b ≡ true → ⊥) → b ≡ false

@@ -3,25 +3,12 @@ use Rattle.std.proofs.Common.{◌≡◌, ℕ, ◌+◌, ◌<◌, ◌≤◌, ◌||
 use Rattle.std.specs.Prelude.{Result, Some, None}
 use Rattle.std.specs.List.{flat_map}
 use Rattle.std.proofs.lemmas.List.{map_more, drop_more, drop_all, take_all}
-use Rattle.cl_model.specs.declared.changes.TaskPriority.{TaskPriority}
-use Rattle.cl_model.specs.declared.chain.RequirementDef.{RequirementDef}
-use Rattle.cl_model.specs.declared.limits.TheConstants.{MOST_REQUIREMENTS}
-use Rattle.cl_model.specs.declared.model.SystemModel.{SystemModel}
-use Rattle.cl_model.specs.declared.model_fault.ModelFault.{ModelFault}
+use Rattle.cl_model.specs.{declared.{changes.TaskPriority.TaskPriority, chain.RequirementDef.RequirementDef, limits.TheConstants.MOST_REQUIREMENTS, model.SystemModel.SystemModel, model_fault.ModelFault.ModelFault, refusal.{Code.TheVariants.M10, Refusal.Refusal}}, Answers.Answers}
+use Rattle.cl_model.specs.{Answers.IsFaultOf, ByNumber.requirement_named, Named.{has_name, task_names, requirement_names}, Place.section_place, Refusals.unless}
 use Rattle.cl_model.specs.declared.place.Part.TheVariants as part
-use Rattle.cl_model.specs.declared.refusal.Code.TheVariants.{M10}
-use Rattle.cl_model.specs.declared.refusal.Refusal.{Refusal}
-use Rattle.cl_model.specs.Answers.{Answers, IsFaultOf}
-use Rattle.cl_model.specs.ByNumber.{requirement_named}
-use Rattle.cl_model.specs.Named.{has_name, task_names, requirement_names}
-use Rattle.cl_model.specs.Place.{section_place}
-use Rattle.cl_model.specs.Refusals.{unless}
 use Rattle.cl_model.proofs.FirstRefusals.{fault_of_front}
-use Rattle.cl_edit.specs.declared.change.Change.{Change}
+use Rattle.cl_edit.specs.{declared.{change.Change.Change, edit.NamedPriority.NamedPriority}, Changing.{by_number, requirement_change}, Edited.found}
 use Rattle.cl_edit.specs.declared.change.Change.TheVariants as changes
-use Rattle.cl_edit.specs.declared.edit.NamedPriority.{NamedPriority}
-use Rattle.cl_edit.specs.Changing.{by_number, requirement_change}
-use Rattle.cl_edit.specs.Edited.{found}
 use Rattle.cl_edit.proofs.FoundFacts.{missing_unknown, found_known}
 
 -- ---- priorities

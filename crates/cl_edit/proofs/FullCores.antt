@@ -5,19 +5,11 @@ use Rattle.std.specs.Cmp.Lexicographic.{bytes_decides}
 use Rattle.std.proofs.lemmas.Bool.{eqb-true, eqb-false, eq-eqb, ltb-true, ltb-false, false_from_ne_true}
 use Rattle.std.proofs.lemmas.List.{append-nil, length-append, length_push, get_or_push}
 use Rattle.std.proofs.lemmas.List.Filters.{length-filter_more}
-use Rattle.cl_model.specs.declared.limits.TheConstants.{MOST_TASKS_OF_CORE}
-use Rattle.cl_model.specs.declared.model.SystemModel.{SystemModel}
-use Rattle.cl_model.specs.declared.task.TaskDef.{TaskDef}
-use Rattle.cl_model.specs.ByNumber.{no_task, task_at, core_of, tasks_of_core_below, tasks_of_core}
-use Rattle.cl_model.specs.Named.{same_name, index_of, core_names, tasks_on}
-use Rattle.cl_model.specs.Validity.{IsValid}
-use Rattle.cl_model.proofs.CoreTasks.{below_more, few_tasks}
-use Rattle.cl_model.proofs.ListFacts.{same_tests}
+use Rattle.cl_model.specs.{declared.{limits.TheConstants.MOST_TASKS_OF_CORE, model.SystemModel.SystemModel, task.TaskDef.TaskDef}, ByNumber.{no_task, task_at, core_of, tasks_of_core_below, tasks_of_core}, Named.{same_name, index_of, core_names, tasks_on}, Validity.IsValid}
+use Rattle.cl_model.proofs.{CoreTasks.{below_more, few_tasks}, ListFacts.same_tests}
 use Rattle.cl_edit.specs.declared.pace.Retiming.TheVariants as change
-use Rattle.cl_edit.specs.Inner.Paces.{with_retiming}
-use Rattle.cl_edit.specs.Inner.Places.{is_beyond, IsFirstBeyond}
-use Rattle.cl_edit.proofs.RefusedTasks.{IsKnown, names_same}
-use Rattle.cl_edit.proofs.RetimedTasks.{change_known, core_is, tasks_kept}
+use Rattle.cl_edit.specs.Inner.{Paces.with_retiming, Places.{is_beyond, IsFirstBeyond}}
+use Rattle.cl_edit.proofs.{RefusedTasks.{IsKnown, names_same}, RetimedTasks.{change_known, core_is, tasks_kept}}
 
 -- ---- counts
 

@@ -4,20 +4,9 @@ use Rattle.std.specs.List.{list_any}
 use Rattle.std.proofs.lemmas.Bool.{false≢true, false_from_ne_true, eqb-true, eq-eqb}
 use Rattle.std.proofs.lemmas.List.{length-map, get_or-map}
 use Rattle.std.proofs.lemmas.List.Folds.{list_any_at}
-use Rattle.cl_model.specs.declared.chain.ChainDef.{ChainDef}
-use Rattle.cl_model.specs.declared.group.Group.{Group}
-use Rattle.cl_model.specs.declared.group.Step.{Step}
-use Rattle.cl_model.specs.declared.model.SystemModel.{SystemModel}
-use Rattle.cl_model.specs.declared.place.Place.{Place}
-use Rattle.cl_model.specs.declared.task.RunnableDef.{RunnableDef}
-use Rattle.cl_model.specs.ByNumber.{task_at, runnable_at, no_runnable}
-use Rattle.cl_model.specs.Groups.{is_inner, group_of_step, groups_from, groups, groups_of, steps_of, step_named}
-use Rattle.cl_model.specs.Named.{runnable_names}
-use Rattle.cl_model.specs.Refusals.{each}
-use Rattle.cl_model.specs.Validity.{IsValid}
-use Rattle.cl_model.proofs.ListFacts.{both_pass, list_any-map}
-use Rattle.cl_model.proofs.NamePlaces.{known_stands}
-use Rattle.cl_model.proofs.StepsApart.{own_step}
+use Rattle.cl_model.specs.{declared.{chain.ChainDef.ChainDef, group.{Group.Group, Step.Step}, model.SystemModel.SystemModel, place.Place.Place, task.RunnableDef.RunnableDef}, ByNumber.{task_at, runnable_at, no_runnable}, Groups.{is_inner, group_of_step, groups_from, groups, groups_of}}
+use Rattle.cl_model.specs.{Groups.{steps_of, step_named}, Named.runnable_names, Refusals.each, Validity.IsValid}
+use Rattle.cl_model.proofs.{ListFacts.{both_pass, list_any-map}, NamePlaces.known_stands, StepsApart.own_step}
 use Rattle.cl_edit.specs.FewListChecks.{kept_step_check}
 use Rattle.cl_edit.proofs.EachChecked.{none_of_each, when_false}
 

@@ -2,12 +2,7 @@
 use Rattle.std.proofs.Common.{◌≡◌, ◌≢◌, ℕ, false, Some, None, List, [], ◌∷◌, refl, ap, ◌∙◌}
 use Rattle.std.specs.Prelude.{Err, codes}
 use Rattle.std.specs.Str.{bytes_eq}
-use Rattle.cl_edit.specs.declared.edit.Edit.{Edit}
-use Rattle.cl_edit.specs.declared.fault.Unread.{Unread}
-use Rattle.cl_edit.specs.declared.fault.Unread.TheVariants.{Bad, NoMemory}
-use Rattle.cl_edit.specs.declared.version.Version.{Version}
-use Rattle.cl_edit.specs.Inner.Parts.{parts, then_read, if_done, ReadsPart, ReadsUpTo}
-use Rattle.cl_edit.specs.Inner.LineReads.{fields_in, later_fields_in, fields_of, words_in, edit_in}
+use Rattle.cl_edit.specs.{declared.{edit.Edit.Edit, fault.Unread.{Unread, TheVariants.{Bad, NoMemory}}, version.Version.Version}, Inner.{Parts.{parts, then_read, if_done, ReadsPart, ReadsUpTo}, LineReads.{fields_in, later_fields_in, fields_of, words_in, edit_in}}}
 
 -- a word that is no keyword
 pub other_keyword : (word : List ℕ) (words : List (List ℕ))

@@ -4,31 +4,14 @@ use Rattle.std.specs.Prelude.{Some, unwrap_or, nat_le}
 use Rattle.std.specs.List.{list_any}
 use Rattle.std.specs.Cmp.Lexicographic.{bytes_decides}
 use Rattle.std.proofs.lemmas.List.{append-nil}
-use Rattle.cl_model.specs.declared.model.SystemModel.{SystemModel}
+use Rattle.cl_model.specs.{declared.{model.SystemModel.SystemModel, refusal.{Code.TheVariants.{M32, M33, M42}, Refusal.Refusal}, stimulus.StimulusKind.StimulusKind, task.TaskDef.TaskDef}, ByNumber.{no_task, task_at, stimulus_of}, Changes.with_kind, Named.{same_name, tasks_on}}
+use Rattle.cl_model.specs.{Refusals.{when, in_order}, Timing.{least_distance, greatest_jitter}, ValidTasks.{task_key, late_check, release_check, is_outpaced_by, deadline_check, deadline_checks}, Validity.{IsValid, refusals_of}}
 use Rattle.cl_model.specs.declared.place.Key.TheVariants as key
-use Rattle.cl_model.specs.declared.refusal.Code.TheVariants.{M32, M33, M42}
-use Rattle.cl_model.specs.declared.refusal.Refusal.{Refusal}
-use Rattle.cl_model.specs.declared.stimulus.StimulusKind.{StimulusKind}
-use Rattle.cl_model.specs.declared.task.TaskDef.{TaskDef}
-use Rattle.cl_model.specs.ByNumber.{no_task, task_at, stimulus_of}
-use Rattle.cl_model.specs.Changes.{with_kind}
-use Rattle.cl_model.specs.Named.{same_name, tasks_on}
-use Rattle.cl_model.specs.Refusals.{when, in_order}
-use Rattle.cl_model.specs.Timing.{least_distance, greatest_jitter}
-use Rattle.cl_model.specs.ValidTasks.{task_key, late_check, release_check, is_outpaced_by, deadline_check, deadline_checks}
-use Rattle.cl_model.specs.Validity.{IsValid, refusals_of}
-use Rattle.cl_model.proofs.ListFacts.{both_pass, both_true, same_tests}
-use Rattle.cl_edit.specs.declared.pace.Retiming.{Retiming}
+use Rattle.cl_model.proofs.{ListFacts.{both_pass, both_true, same_tests}, EachFacts.each_alike}
+use Rattle.cl_edit.specs.{declared.{pace.Retiming.Retiming, pairs.PairFault.TheVariants.Outpaced}, FewChecks.{is_on_stimulus, number_refusals, limit_refusals, kind_deadline_refusals, kind_refusals}, Inner.{Paces.{is_on, pace_after, limit_checks, limits_on, all_limits_on}, Pairs.IsPair}}
+use Rattle.cl_edit.specs.Inner.Pairs.{is_refused}
 use Rattle.cl_edit.specs.declared.pace.Retiming.TheVariants as change
-use Rattle.cl_edit.specs.FewChecks.{is_on_stimulus, number_refusals, limit_refusals, kind_deadline_refusals, kind_refusals}
-use Rattle.cl_edit.specs.declared.pairs.PairFault.TheVariants.{Outpaced}
-use Rattle.cl_edit.specs.Inner.Paces.{is_on, pace_after, limit_checks, limits_on, all_limits_on}
-use Rattle.cl_edit.specs.Inner.Pairs.{IsPair, is_refused}
-use Rattle.cl_model.proofs.EachFacts.{each_alike}
-use Rattle.cl_edit.proofs.LimitChecks.{kind_left}
-use Rattle.cl_edit.proofs.RefusedPairs.{pair_touched}
-use Rattle.cl_edit.proofs.RefusedTasks.{any_among, among, pair_of}
-use Rattle.cl_edit.proofs.RetimedTasks.{change_known}
+use Rattle.cl_edit.proofs.{LimitChecks.kind_left, RefusedPairs.pair_touched, RefusedTasks.{any_among, among, pair_of}, RetimedTasks.change_known}
 
 module _ (model : SystemModel) (valid : IsValid model) (s : ℕ) (kind : StimulusKind) (within : s < length model.stimuli) where
   one_limit : (k : ℕ) → limits_on model (change.Kind s kind) s k

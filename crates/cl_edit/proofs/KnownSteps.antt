@@ -2,13 +2,7 @@
 use Rattle.std.proofs.Common.{◌≡◌, ℕ, ◌<◌, true, false, List, length, get_or, refl, sym, ap, ◌∙◌}
 use Rattle.std.specs.Prelude.{Option, Some, None, is_some, slice_get}
 use Rattle.std.specs.Option.{option_and_then}
-use Rattle.cl_model.specs.declared.group.Step.{Step}
-use Rattle.cl_model.specs.declared.model.SystemModel.{SystemModel}
-use Rattle.cl_model.specs.declared.task.RunnableDef.{RunnableDef}
-use Rattle.cl_model.specs.declared.task.TaskDef.{TaskDef}
-use Rattle.cl_model.specs.ByNumber.{no_runnable, task_at, runnable_at}
-use Rattle.cl_model.specs.Groups.{step_named}
-use Rattle.cl_model.specs.Named.{has_name, index_of, runnable_names, runnable_named, all_runnables}
+use Rattle.cl_model.specs.{declared.{group.Step.Step, model.SystemModel.SystemModel, task.{RunnableDef.RunnableDef, TaskDef.TaskDef}}, ByNumber.{no_runnable, task_at, runnable_at}, Groups.step_named, Named.{has_name, index_of, runnable_names, runnable_named, all_runnables}}
 use Rattle.cl_model.proofs.StepFacts.{runnable_found}
 use Rattle.std.proofs.lemmas.List.{get_or_default}
 use Rattle.cl_edit.specs.Edited.{all_names}

@@ -5,26 +5,10 @@ use Rattle.std.specs.List.{flat_map, list_all}
 use Rattle.std.specs.Option.{option_and_then}
 use Rattle.std.proofs.lemmas.List.{append-nil}
 use Rattle.std.proofs.lemmas.List.Elements.{All-nil, All-cons, All-head, All-tail}
-use Rattle.cl_model.specs.declared.limits.TheConstants.{MOST_PRIORITY, MOST_TASKS}
-use Rattle.cl_model.specs.declared.chain.RequirementDef.{RequirementDef}
-use Rattle.cl_model.specs.Kinds.{requirement_word}
-use Rattle.cl_model.specs.Name.{IsName}
-use Rattle.cl_model.specs.Named.{has_name}
-use Rattle.cl_model.specs.NameSets.{names_with, AreNew}
-use Rattle.cl_edit.specs.declared.edit.Edit.{Edit}
-use Rattle.cl_edit.specs.declared.edit.Edit.TheVariants.{Priorities, Requirement, DropRequirement}
-use Rattle.cl_edit.specs.declared.edit.NamedPriority.{NamedPriority}
-use Rattle.cl_edit.specs.declared.version.Version.TheVariants.{Two}
-use Rattle.cl_edit.specs.Lines.{priority_words, requirement_words}
-use Rattle.cl_edit.specs.Reading.{IsLineEdit}
-use Rattle.cl_edit.specs.declared.fault.Unread.{Unread}
-use Rattle.cl_edit.specs.declared.fault.Unread.TheVariants.{Bad, NoMemory}
-use Rattle.cl_edit.specs.Inner.Parts.{with_left, then_read, ReadsUpTo}
-use Rattle.cl_edit.specs.Inner.LineReads.{priority_in, unless_above, new_priority_in, tasks_of, priority_list_in, with_priorities_read, priorities_in, requirement_in, drop_requirement_in}
-use Rattle.cl_edit.proofs.FieldFacts.{is_word, name_field, priority_field, most_field, requirement_field, some_same}
-use Rattle.cl_edit.proofs.WordsFacts.{took, gave, three_words}
-use Rattle.cl_edit.proofs.WordLists.{then_some, IsItem, AreGood, list_said, list_back}
-use Rattle.cl_edit.proofs.SimpleLines.{Says, so_says, says_by, answer_of, name_said}
+use Rattle.cl_model.specs.{declared.{limits.TheConstants.{MOST_PRIORITY, MOST_TASKS}, chain.RequirementDef.RequirementDef}, Kinds.requirement_word, Name.IsName, Named.has_name, NameSets.{names_with, AreNew}}
+use Rattle.cl_edit.specs.{declared.{edit.{Edit.{Edit, TheVariants.{Priorities, Requirement, DropRequirement}}, NamedPriority.NamedPriority}, version.Version.TheVariants.Two, fault.Unread.{Unread, TheVariants.{Bad, NoMemory}}}, Lines.{priority_words, requirement_words}, Reading.IsLineEdit}
+use Rattle.cl_edit.specs.Inner.{Parts.{with_left, then_read, ReadsUpTo}, LineReads.{priority_in, unless_above, new_priority_in, tasks_of, priority_list_in, with_priorities_read, priorities_in, requirement_in, drop_requirement_in}}
+use Rattle.cl_edit.proofs.{FieldFacts.{is_word, name_field, priority_field, most_field, requirement_field, some_same}, WordsFacts.{took, gave, three_words}, WordLists.{then_some, IsItem, AreGood, list_said, list_back}, SimpleLines.{Says, so_says, says_by, answer_of, name_said}}
 
 -- ---- requirements
 

@@ -3,37 +3,14 @@
 use Rattle.std.proofs.Common.{◌≡◌, ℕ, zero, suc, ◌+◌, ◌<◌, ◌≤◌, true, false, cond, List, [], ◌∷◌, ◌++◌, length, drop, get_or, set, refl, sym, ap, ◌∙◌, arith, nat_lt}
 use Rattle.std.specs.Prelude.{Option, Some, unwrap_or, nat_le}
 use Rattle.std.proofs.lemmas.List.{length-set, get_or-set_same, get_or-set_other}
-use Rattle.cl_model.specs.declared.model.SystemModel.{SystemModel}
+use Rattle.cl_model.specs.{declared.{model.SystemModel.SystemModel, refusal.{Code.TheVariants.{M32, M33}, Refusal.Refusal}, stimulus.{StimulusDef.StimulusDef, StimulusKind.StimulusKind}, task.TaskDef.TaskDef, model_fault.ModelFault.ModelFault}, ByNumber.{no_task, task_at, stimulus_of}}
+use Rattle.cl_model.specs.{Changes.{no_stimulus_def, stimulus_at, with_kind, with_deadline}, Named.kind_named, Refusals.{when, in_order, each_from, each}, Timing.{least_distance, greatest_jitter}, ValidNames.{offset_check, distance_check, burst_check, stimulus_checks}, ValidTasks.task_key}
+use Rattle.cl_model.specs.{ValidTasks.{late_check, release_check, deadline_checks}, Validity.{IsValid, refusals_of}, Answers.IsFaultOf, NamedAlike.AreNamedAlike}
 use Rattle.cl_model.specs.declared.place.Key.TheVariants as key
-use Rattle.cl_model.specs.declared.refusal.Code.TheVariants.{M32, M33}
-use Rattle.cl_model.specs.declared.refusal.Refusal.{Refusal}
-use Rattle.cl_model.specs.declared.stimulus.StimulusDef.{StimulusDef}
-use Rattle.cl_model.specs.declared.stimulus.StimulusKind.{StimulusKind}
-use Rattle.cl_model.specs.declared.task.TaskDef.{TaskDef}
-use Rattle.cl_model.specs.ByNumber.{no_task, task_at, stimulus_of}
-use Rattle.cl_model.specs.Changes.{no_stimulus_def, stimulus_at, with_kind, with_deadline}
-use Rattle.cl_model.specs.Named.{kind_named}
-use Rattle.cl_model.specs.Refusals.{when, in_order, each_from, each}
-use Rattle.cl_model.specs.Timing.{least_distance, greatest_jitter}
-use Rattle.cl_model.specs.ValidNames.{offset_check, distance_check, burst_check, stimulus_checks}
-use Rattle.cl_model.specs.ValidTasks.{task_key, late_check, release_check, deadline_checks}
-use Rattle.cl_model.specs.Validity.{IsValid, refusals_of}
-use Rattle.cl_model.specs.declared.model_fault.ModelFault.{ModelFault}
-use Rattle.cl_model.specs.Answers.{IsFaultOf}
-use Rattle.cl_model.proofs.FirstRefusals.{all_checked, next_passes, next_refused}
-use Rattle.cl_model.proofs.NoRefusals.{all_none}
-use Rattle.cl_model.proofs.Refused.{each_none}
-use Rattle.cl_edit.specs.declared.pace.Retiming.{Retiming}
+use Rattle.cl_model.proofs.{FirstRefusals.{all_checked, next_passes, next_refused}, NoRefusals.all_none, Refused.each_none, EachFacts.{each_alike, each_only}, PassedChecks.stimuli_pass, ChecksLeft.{times_checks, timing_check, task_passes, times_left_of}}
+use Rattle.cl_edit.specs.{declared.pace.Retiming.Retiming, FewChecks.number_refusals, Inner.Paces.{with_retiming, IsRetimingOf, is_on, kind_after, pace_after, limit_checks, limits_on, all_limits_on}}
 use Rattle.cl_edit.specs.declared.pace.Retiming.TheVariants as change
-use Rattle.cl_edit.specs.FewChecks.{number_refusals}
-use Rattle.cl_edit.specs.Inner.Paces.{with_retiming, IsRetimingOf, is_on, kind_after, pace_after, limit_checks, limits_on, all_limits_on}
-use Rattle.cl_model.proofs.EachFacts.{each_alike, each_only}
-use Rattle.cl_model.specs.NamedAlike.{AreNamedAlike}
-use Rattle.cl_model.proofs.PassedChecks.{stimuli_pass}
-use Rattle.cl_model.proofs.ChecksLeft.{times_checks, timing_check, task_passes, times_left_of}
-use Rattle.cl_edit.proofs.TaskSetters.{map_set_same, task_times}
-use Rattle.cl_edit.proofs.ChangedTasks.{kind_known, kind_after_change}
-use Rattle.cl_edit.proofs.RetimedTasks.{kind_is, given_is}
+use Rattle.cl_edit.proofs.{TaskSetters.{map_set_same, task_times}, ChangedTasks.{kind_known, kind_after_change}, RetimedTasks.{kind_is, given_is}}
 
 -- M32 and M33 of a task after a change
 pub limits_are : (model : SystemModel) → IsValid model → (c : Retiming) → IsRetimingOf model c → (k : ℕ) → k < length model.tasks
@@ -72,9 +49,6 @@ no_limits o kind k task same nl nr nt = three_none _ _ _ (ap (λ x. late_check x
     three_none a b c na nb nc = rw (na, nb, nc) refl
 
 module _ (model : SystemModel) (valid : IsValid model) (s : ℕ) (kind : StimulusKind) (within : s < length model.stimuli) where
-  changed : StimulusDef
-  changed = record (stimulus_at model s) { kind = kind }
-
   pub kind_alike : AreNamedAlike model (with_kind model s (λ _. kind))
   kind_alike = record {
     cores = refl;

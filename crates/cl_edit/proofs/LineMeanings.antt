@@ -7,22 +7,12 @@ use Rattle.std.proofs.lemmas.List.{append-nil}
 use Rattle.std.proofs.lemmas.List.Sums.{AllPass-from_list_all}
 use Rattle.cl_text.specs.Line.{is_graphic}
 use Rattle.cl_model.specs.declared.limits.TheConstants.{MOST_STEPS, MOST_HOPS}
-use Rattle.cl_edit.specs.declared.edit.Edit.{Edit}
-use Rattle.cl_edit.specs.declared.edit.Edit.TheVariants.{Range, Whole, Period, Offset, Jitter, Distances, Burst, Deadline, Swap, Priorities, Move, Kind, AddTask, DropTask, AddChain, DropChain, Requirement, DropRequirement, Report, Tighten, Verify}
-use Rattle.cl_edit.specs.declared.version.Version.{Version}
-use Rattle.cl_edit.specs.declared.version.Version.TheVariants.{One, Two}
-use Rattle.cl_edit.specs.Lines.{edit_words, edit_text}
-use Rattle.cl_edit.specs.Reading.{IsLineEdit, is_later}
-use Rattle.cl_edit.specs.Inner.Parts.{parts, then_read, if_done}
-use Rattle.cl_edit.specs.Inner.LineReads.{fields_in, later_fields_in, fields_of, words_in, edit_in}
-use Rattle.cl_edit.proofs.PartFacts.{Lacks, joined_parts, parts_joined}
-use Rattle.cl_edit.proofs.FieldFacts.{is_word, name_field, time_field, ticks_field, priority_field, count_field, most_field, flag_field, access_field, requirement_field, deadline_field, choose, of_word, some_same}
-use Rattle.cl_edit.proofs.NamesFacts.{names_field, words_parts, lacks_of}
-use Rattle.cl_edit.proofs.SimpleLines.{Says, so_says, answer_of, range_said, whole_said, period_said, offset_said, jitter_said, distances_said, burst_said, deadline_said, swap_said, move_said, access_said, drop_task_said, drop_chain_said, chain_said}
-use Rattle.cl_edit.proofs.SimpleLines.{range_back, whole_back, period_back, offset_back, jitter_back, distances_back, burst_back, deadline_back, swap_back, move_back, access_back, drop_task_back, drop_chain_back, chain_back}
-use Rattle.cl_edit.proofs.WordLists.{then_some}
-use Rattle.cl_edit.proofs.TaskLines.{are_new, runnables_are_words, task_said, task_back}
-use Rattle.cl_edit.proofs.LaterLines.{requirement_said, requirement_back, drop_requirement_said, drop_requirement_back, priorities_said, priorities_back, are_good, priorities_are_words}
+use Rattle.cl_edit.specs.declared.{edit.Edit.{Edit, TheVariants.{Range, Whole, Period, Offset, Jitter, Distances, Burst, Deadline, Swap, Priorities, Move, Kind, AddTask, DropTask, AddChain, DropChain, Requirement, DropRequirement, Report, Tighten, Verify}}, version.Version.Version}
+use Rattle.cl_edit.specs.{declared.version.Version.TheVariants.{One, Two}, Lines.{edit_words, edit_text}, Reading.{IsLineEdit, is_later}, Inner.{Parts.{parts, then_read, if_done}, LineReads.{fields_in, later_fields_in, fields_of, words_in, edit_in}}}
+use Rattle.cl_edit.proofs.{PartFacts.{Lacks, joined_parts, parts_joined}, FieldFacts.{is_word, name_field, time_field, ticks_field, priority_field, count_field, most_field, flag_field, access_field, requirement_field, deadline_field, choose, of_word, some_same}, NamesFacts.names_field}
+use Rattle.cl_edit.proofs.{NamesFacts.{words_parts, lacks_of}, SimpleLines.{Says, so_says, answer_of, range_said, whole_said, period_said, offset_said, jitter_said, distances_said, burst_said, deadline_said, swap_said, move_said, access_said, drop_task_said, drop_chain_said, chain_said}}
+use Rattle.cl_edit.proofs.{SimpleLines.{range_back, whole_back, period_back, offset_back, jitter_back, distances_back, burst_back, deadline_back, swap_back, move_back, access_back, drop_task_back, drop_chain_back, chain_back}, WordLists.then_some, TaskLines.{are_new, runnables_are_words}}
+use Rattle.cl_edit.proofs.{TaskLines.{task_said, task_back}, LaterLines.{requirement_said, requirement_back, drop_requirement_said, drop_requirement_back, priorities_said, priorities_back, are_good, priorities_are_words}}
 
 -- ---- the words of an edit are read as that edit
 

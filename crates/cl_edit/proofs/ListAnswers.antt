@@ -1,11 +1,7 @@
 -- What is answered of one check, by what was computed.
 use Rattle.std.proofs.Common.{◌≡◌, Bool, subst}
 use Rattle.std.specs.Prelude.{Result}
-use Rattle.cl_model.specs.declared.model_fault.ModelFault.{ModelFault}
-use Rattle.cl_model.specs.declared.place.Place.{Place}
-use Rattle.cl_model.specs.declared.refusal.Code.{Code}
-use Rattle.cl_model.specs.Answers.{Answers}
-use Rattle.cl_model.specs.Refusals.{when, unless}
+use Rattle.cl_model.specs.{declared.{model_fault.ModelFault.ModelFault, place.Place.Place, refusal.Code.Code}, Answers.Answers, Refusals.{when, unless}}
 
 pub answers_when : (result : Result (Unit {0}) ModelFault) (computed asked : Bool) (code : Code) (made place : Place) → computed ≡ asked → made ≡ place
     → Answers result (when computed code made) tt → Answers result (when asked code place) tt

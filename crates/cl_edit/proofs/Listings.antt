@@ -7,13 +7,7 @@ use Rattle.std.proofs.lemmas.List.{get_or_append_left}
 use Rattle.std.proofs.lemmas.List.Elements.{All-nil, All-cons, All-head, All-tail, All-append}
 use Rattle.std.proofs.lemmas.List.Sums.{sum_by-append}
 use Rattle.std.proofs.Math.Seq.{get_or-append_seam}
-use Rattle.cl_edit.specs.declared.edit.Edit.{Edit}
-use Rattle.cl_edit.specs.declared.edit_lines.ListedEdit.{ListedEdit}
-use Rattle.cl_edit.specs.declared.limits.TheConstants.{MOST_EDITS, MOST_REPORTS}
-use Rattle.cl_edit.specs.declared.version.Version.{Version}
-use Rattle.cl_edit.specs.Lines.{edit_text}
-use Rattle.cl_edit.specs.Reading.{IsLineEdit, is_written, MayBeListed, edits_of, said_of}
-use Rattle.cl_edit.specs.Inner.Left.{before_others, edits_said}
+use Rattle.cl_edit.specs.{declared.{edit.Edit.Edit, edit_lines.ListedEdit.ListedEdit, limits.TheConstants.{MOST_EDITS, MOST_REPORTS}, version.Version.Version}, Lines.edit_text, Reading.{IsLineEdit, is_written, MayBeListed, edits_of, said_of}, Inner.Left.{before_others, edits_said}}
 use Rattle.cl_edit.specs.Inner.LineReads.{edit_in}
 use Rattle.cl_edit.proofs.LineMeanings.{edit_back}
 

@@ -2,31 +2,13 @@
 use Rattle.std.proofs.Common.{◌≡◌, ℕ, ◌<◌, List, [], ◌∷◌, ◌++◌, length, get_or, set, take, refl, sym, ap, ◌∙◌, subst, arith}
 use Rattle.std.specs.Prelude.{Some, None, Result}
 use Rattle.std.proofs.lemmas.List.{append-nil, length-set, get_or-set_same, get_or-set_other, take-set-le}
-use Rattle.cl_model.specs.declared.model.CoreDef.{CoreDef}
-use Rattle.cl_model.specs.declared.model.SystemModel.{SystemModel}
-use Rattle.cl_model.specs.declared.model_fault.ModelFault.{ModelFault}
-use Rattle.cl_model.specs.declared.model_fault.ModelFault.TheVariants.{Refused}
+use Rattle.cl_model.specs.{declared.{model.{CoreDef.CoreDef, SystemModel.SystemModel}, model_fault.ModelFault.{ModelFault, TheVariants.Refused}, refusal.{Code.TheVariants.M29, Refusal.Refusal}, task.TaskDef.TaskDef}, Answers.{Passes, IsFaultOf}, ByNumber.{no_core, no_task, task_at}}
+use Rattle.cl_model.specs.{ByNumber.core_at, Changes.with_place, Named.{index_of, core_names, tasks_on}, Refusals.{unless, in_order, first}, ValidTasks.{task_key, core_check, priority_check, room_check, deadline_checks}, Validity.{IsValid, refusals_of}}
 use Rattle.cl_model.specs.declared.place.Key.TheVariants as key
-use Rattle.cl_model.specs.declared.refusal.Code.TheVariants.{M29}
-use Rattle.cl_model.specs.declared.refusal.Refusal.{Refusal}
-use Rattle.cl_model.specs.declared.task.TaskDef.{TaskDef}
-use Rattle.cl_model.specs.Answers.{Passes, IsFaultOf}
-use Rattle.cl_model.specs.ByNumber.{no_core, no_task, task_at, core_at}
-use Rattle.cl_model.specs.Changes.{with_place}
-use Rattle.cl_model.specs.Named.{index_of, core_names, tasks_on}
-use Rattle.cl_model.specs.Refusals.{unless, in_order, first}
-use Rattle.cl_model.specs.ValidTasks.{task_key, core_check, priority_check, room_check, deadline_checks}
-use Rattle.cl_model.specs.Validity.{IsValid, refusals_of}
-use Rattle.cl_model.proofs.NamePlaces.{entry_found}
-use Rattle.cl_model.proofs.Refused.{first_with_more}
+use Rattle.cl_model.proofs.{NamePlaces.entry_found, Refused.first_with_more, ChecksLeft.task_passes}
 use Rattle.cl_edit.specs.declared.pace.Retiming.TheVariants as change
-use Rattle.cl_edit.specs.FewChecks.{place_refusals}
-use Rattle.cl_edit.specs.Inner.Paces.{with_retiming}
-use Rattle.cl_edit.specs.Inner.Places.{place_checks}
-use Rattle.cl_edit.proofs.FoundFacts.{missing_unknown}
-use Rattle.cl_edit.proofs.RefusedTasks.{each_first}
-use Rattle.cl_edit.proofs.PlaceLaws.{move_needs_few}
-use Rattle.cl_model.proofs.ChecksLeft.{task_passes}
+use Rattle.cl_edit.specs.{FewChecks.place_refusals, Inner.{Paces.with_retiming, Places.place_checks}}
+use Rattle.cl_edit.proofs.{FoundFacts.missing_unknown, RefusedTasks.each_first, PlaceLaws.move_needs_few}
 
 move_left : (model : SystemModel) → IsValid model → (i : ℕ) (core : List ℕ) (priority : ℕ)
     → refusals_of (with_place model i core priority) ≡ place_checks (with_place model i core priority) ++ deadline_checks (with_place model i core priority)

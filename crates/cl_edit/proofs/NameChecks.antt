@@ -10,15 +10,9 @@ use Rattle.std.proofs.lemmas.List.Quantifiers.{position-Some}
 use Rattle.std.proofs.lemmas.List.Sums.{position_or_len_is}
 use Rattle.std.proofs.lemmas.List.{length-append, get_or_append_left, take-append-le, take_at, take-map, drop-map, map-append, get_or_default}
 use Rattle.std.proofs.lemmas.List.Folds.{list_any-append}
-use Rattle.cl_model.specs.declared.place.Place.{Place}
-use Rattle.cl_model.specs.declared.refusal.Code.{Code}
-use Rattle.cl_model.specs.Named.{same_name, has_name, index_of}
-use Rattle.cl_model.specs.NameSets.{AreDistinctNames}
-use Rattle.cl_model.specs.Refusals.{when}
-use Rattle.cl_model.specs.ValidNames.{repeat_check, repeats}
-use Rattle.cl_model.proofs.NamePlaces.{known_stands, found_below, found_named, one_place}
+use Rattle.cl_model.specs.{declared.{place.Place.Place, refusal.Code.Code}, Named.{same_name, has_name, index_of}, NameSets.AreDistinctNames, Refusals.when, ValidNames.{repeat_check, repeats}}
+use Rattle.cl_model.proofs.{NamePlaces.{known_stands, found_below, found_named, one_place}, Removals.stood_at}
 use Rattle.cl_edit.proofs.EachChecked.{each_more, each_same, none_of_each, when_false}
-use Rattle.cl_model.proofs.Removals.{stood_at}
 
 -- names that are apart aren't refused
 pub apart_pass : (code : Code) (place : ℕ → Place) (names : List (List ℕ)) → AreDistinctNames names → repeats code place [] names ≡ []

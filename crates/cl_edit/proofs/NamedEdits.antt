@@ -2,26 +2,12 @@
 use Rattle.std.proofs.Common.{◌≡◌, ℕ, List, [], ◌∷◌, ◌++◌, map, subst, get_or, set}
 use Rattle.std.specs.Prelude.{Option, Some, None, unwrap_or, All, remove, Ok}
 use Rattle.std.proofs.lemmas.List.Elements.{All-nil, All-cons, All-append}
-use Rattle.cl_model.specs.declared.model.SystemModel.{SystemModel}
-use Rattle.cl_model.specs.declared.stimulus.StimulusDef.{StimulusDef}
-use Rattle.cl_model.specs.declared.stimulus.StimulusKind.{StimulusKind}
-use Rattle.cl_model.specs.declared.task.RunnableDef.{RunnableDef}
-use Rattle.cl_model.specs.declared.task.TaskDef.{TaskDef}
-use Rattle.cl_model.specs.declared.chain.ChainDef.{ChainDef}
-use Rattle.cl_model.specs.declared.chain.RequirementDef.{RequirementDef}
-use Rattle.cl_model.specs.declared.changes.TaskPriority.{TaskPriority}
-use Rattle.cl_model.specs.AreNamed.{IsRunnableNamed, IsTaskNamed, IsChainNamed, IsRequirementNamed, AreNamed}
-use Rattle.cl_model.specs.ByNumber.{stimulus_number, requirement_named, no_task, no_runnable}
-use Rattle.cl_model.specs.Groups.{step_named}
-use Rattle.cl_model.specs.Name.{IsName}
-use Rattle.cl_edit.specs.declared.edit.Edit.{Edit}
-use Rattle.cl_edit.specs.declared.edit.Edit.TheVariants.{Range, Whole, Period, Offset, Jitter, Distances, Burst, Deadline, Swap, Priorities, Move, Kind, AddTask, DropTask, AddChain, DropChain, Requirement, DropRequirement, Report, Tighten, Verify}
-use Rattle.cl_model.specs.Changes.{no_stimulus_def, with_period, with_offset, with_jitter, with_distances, with_burst, with_priority, with_priorities}
-use Rattle.cl_edit.specs.Changing.{with_change, change_of, task_number, chain_number, by_number, exchanged, requirement_change}
-use Rattle.cl_edit.specs.Edited.{with_edit, edited}
-use Rattle.cl_edit.specs.Reading.{IsEditNamed}
-use Rattle.cl_edit.proofs.EditedValid.{made_is}
-use Rattle.cl_edit.proofs.RangeFacts.{changed_all, removed_all}
+use Rattle.cl_model.specs.declared.{model.SystemModel.SystemModel, stimulus.{StimulusDef.StimulusDef, StimulusKind.StimulusKind}, task.{RunnableDef.RunnableDef, TaskDef.TaskDef}, chain.{ChainDef.ChainDef, RequirementDef.RequirementDef}, changes.TaskPriority.TaskPriority}
+use Rattle.cl_model.specs.{AreNamed.{IsRunnableNamed, IsTaskNamed, IsChainNamed, IsRequirementNamed, AreNamed}, ByNumber.{stimulus_number, requirement_named, no_task, no_runnable}, Groups.step_named, Name.IsName, Changes.{no_stimulus_def, with_period, with_offset, with_jitter}}
+use Rattle.cl_model.specs.Changes.{with_distances, with_burst, with_priority, with_priorities}
+use Rattle.cl_edit.specs.{declared.edit.Edit.{Edit, TheVariants.{Range, Whole, Period, Offset, Jitter, Distances, Burst, Deadline, Swap, Priorities, Move, Kind, AddTask, DropTask, AddChain, DropChain, Requirement, DropRequirement, Report, Tighten, Verify}}, Changing.with_change}
+use Rattle.cl_edit.specs.{Changing.{change_of, task_number, chain_number, by_number, exchanged, requirement_change}, Edited.{with_edit, edited}, Reading.IsEditNamed}
+use Rattle.cl_edit.proofs.{EditedValid.made_is, RangeFacts.{changed_all, removed_all}}
 
 -- ---- sections
 

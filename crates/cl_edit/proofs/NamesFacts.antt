@@ -8,15 +8,10 @@ use Rattle.std.proofs.lemmas.List.Elements.{All-nil, All-cons, All-head, All-tai
 use Rattle.std.proofs.lemmas.List.Folds.{list_all-append}
 use Rattle.std.proofs.lemmas.List.Sums.{AllPass-from_list_all, list_all-from_AllPass}
 use Rattle.cl_text.specs.Line.{is_graphic}
-use Rattle.cl_model.proofs.Names.{name_bytes}
+use Rattle.cl_model.proofs.{Names.name_bytes, ListFacts.both_pass}
 use Rattle.cl_model.specs.Name.{is_name_byte, is_name, IsName}
-use Rattle.cl_model.proofs.ListFacts.{both_pass}
-use Rattle.cl_edit.specs.Said.{has_bytes}
-use Rattle.cl_edit.specs.Lines.{names_word}
-use Rattle.cl_edit.specs.Inner.Parts.{parts}
-use Rattle.cl_edit.specs.Inner.Fields.{names_in}
-use Rattle.cl_edit.proofs.PartFacts.{Lacks, some_part, joined_parts, parts_joined}
-use Rattle.cl_edit.proofs.FieldFacts.{IsField, is_word, both_true, name_field, choose, chosen, some_same, of_word, le_of, names_read}
+use Rattle.cl_edit.specs.{Said.has_bytes, Lines.names_word, Inner.{Parts.parts, Fields.names_in}}
+use Rattle.cl_edit.proofs.{PartFacts.{Lacks, some_part, joined_parts, parts_joined}, FieldFacts.{IsField, is_word, both_true, name_field, choose, chosen, some_same, of_word, le_of, names_read}}
 
 -- what passes a test that a byte fails lacks the byte
 pub lacks_of : (c : ℕ) (p : ℕ → Bool) (word : List ℕ) → p c ≡ false → list_all p word ≡ true → Lacks c word

@@ -8,29 +8,14 @@ use Rattle.std.proofs.lemmas.List.Concat.{length-flat_map}
 use Rattle.std.proofs.lemmas.List.Sums.{sum_by_push}
 use Rattle.std.proofs.lemmas.List.Folds.{list_any-append}
 use Rattle.std.proofs.lemmas.Option.{slice_get_within, get_or_from_slice_get}
-use Rattle.cl_model.specs.declared.limits.TheConstants.{MOST_RUNNABLES_OF_MODEL}
-use Rattle.cl_model.specs.declared.model.SystemModel.{SystemModel}
+use Rattle.cl_model.specs.{declared.{limits.TheConstants.MOST_RUNNABLES_OF_MODEL, model.SystemModel.SystemModel, place.Place.Place, refusal.{Code.TheVariants.{M41, M42}, Refusal.Refusal}, stimulus.StimulusKind.StimulusKind, task.TaskDef.TaskDef}, ByNumber.{no_stimulus, no_task}}
+use Rattle.cl_model.specs.{ByNumber.stimulus_of, Named.{same_name, is_some_and, core_names, label_names, kind_named, all_runnables, labels_written}, Place.entry_of, Refusals.{when, in_order, each}, Timing.deadline_under, ValidTasks.{task_key, body_checks, task_check, spans_too_many}}
+use Rattle.cl_model.specs.{ValidTasks.{is_outpaced_by, deadline_check}, Validity.IsValid, Changes.with_new_task}
 use Rattle.cl_model.specs.declared.place.Part.TheVariants as part
 use Rattle.cl_model.specs.declared.place.Key.TheVariants as key
-use Rattle.cl_model.specs.declared.place.Place.{Place}
-use Rattle.cl_model.specs.declared.refusal.Code.TheVariants.{M41, M42}
-use Rattle.cl_model.specs.declared.refusal.Refusal.{Refusal}
-use Rattle.cl_model.specs.declared.stimulus.StimulusKind.{StimulusKind}
-use Rattle.cl_model.specs.declared.task.TaskDef.{TaskDef}
-use Rattle.cl_model.specs.ByNumber.{no_stimulus, no_task, stimulus_of}
-use Rattle.cl_model.specs.Named.{same_name, is_some_and, core_names, label_names, kind_named, all_runnables, labels_written}
-use Rattle.cl_model.specs.Place.{entry_of}
-use Rattle.cl_model.specs.Refusals.{when, in_order, each}
-use Rattle.cl_model.specs.Timing.{deadline_under}
-use Rattle.cl_model.specs.ValidTasks.{task_key, body_checks, task_check, spans_too_many, is_outpaced_by, deadline_check}
-use Rattle.cl_model.specs.Validity.{IsValid}
-use Rattle.cl_model.proofs.NamesKnown.{stimulus_known}
-use Rattle.cl_model.proofs.ValidTasks.{few_runnables}
-use Rattle.cl_model.specs.Changes.{with_new_task}
-use Rattle.cl_edit.specs.FewListChecks.{new_task_name_check, new_runnables_check, below_new_check, new_task_checks}
-use Rattle.cl_edit.specs.Inner.NewTasks.{added_naming_checks, added_checks, all_checks, outpaced_by, is_task_below}
-use Rattle.cl_edit.proofs.TaskAdded.{checks_among, checks_are, or_none}
-use Rattle.cl_edit.proofs.TaskLists.{list_any-filter}
+use Rattle.cl_model.proofs.{NamesKnown.stimulus_known, ValidTasks.few_runnables}
+use Rattle.cl_edit.specs.{FewListChecks.{new_task_name_check, new_runnables_check, below_new_check, new_task_checks}, Inner.NewTasks.{added_naming_checks, added_checks, all_checks, outpaced_by, is_task_below}}
+use Rattle.cl_edit.proofs.{TaskAdded.{checks_among, checks_are, or_none}, TaskLists.list_any-filter}
 
 -- ---- M29 to M41
 

@@ -4,15 +4,9 @@ use Rattle.std.specs.Prelude.{All, map, Result, Ok, Err}
 use Rattle.std.specs.Result.{IsErr, IsErrAnd}
 use Rattle.std.proofs.lemmas.List.{append-nil}
 use Rattle.std.proofs.lemmas.List.Elements.{All-head, All-tail}
-use Rattle.cl_text.specs.declared.fault.LinesFault.{LinesFault}
-use Rattle.cl_text.specs.declared.fault.LinesFault.TheVariants.{BadLine, NoMemory}
-use Rattle.cl_text.specs.LinesFault.{ReadsThis}
-use Rattle.cl_edit.specs.declared.edit_lines.ListedEdit.{ListedEdit}
-use Rattle.cl_edit.specs.declared.version.Version.{Version}
-use Rattle.cl_edit.specs.Reading.{IsLineEdit, MayBeListed, edits_of, said_of, AreEditsOf, LacksEdit, IsBadEditLine}
-use Rattle.cl_edit.specs.Said.{Said, said_from, IsTitled}
-use Rattle.cl_edit.proofs.Listings.{edits_more, one_edit, first_listed}
-use Rattle.cl_edit.proofs.Titles.{one_title}
+use Rattle.cl_text.specs.{declared.fault.LinesFault.{LinesFault, TheVariants.{BadLine, NoMemory}}, LinesFault.ReadsThis}
+use Rattle.cl_edit.specs.{declared.{edit_lines.ListedEdit.ListedEdit, version.Version.Version}, Reading.{IsLineEdit, MayBeListed, edits_of, said_of, AreEditsOf, LacksEdit, IsBadEditLine}, Said.{Said, said_from, IsTitled}}
+use Rattle.cl_edit.proofs.{Listings.{edits_more, one_edit, first_listed}, Titles.one_title}
 
 -- ---- two lists of edits that lines begin with
 

@@ -2,21 +2,10 @@
 use Rattle.std.proofs.Common.{◌≡◌, ℕ, ◌<◌, Bool, true, false, cond, List, [], ◌∷◌, ◌++◌, length, get_or, take, refl, sym, ap, ◌∙◌, subst, arith, nat_lt}
 use Rattle.std.specs.Prelude.{Option, Some, None, Result, Ok, Err}
 use Rattle.std.proofs.lemmas.Bool.{ltb-true, ltb-false, false_from_ne_true}
-use Rattle.cl_model.specs.declared.model.SystemModel.{SystemModel}
-use Rattle.cl_model.specs.declared.model_fault.ModelFault.{ModelFault}
-use Rattle.cl_model.specs.declared.model_fault.ModelFault.TheVariants.{Refused, NoMemory}
+use Rattle.cl_model.specs.{declared.{model.SystemModel.SystemModel, model_fault.ModelFault.{ModelFault, TheVariants.{Refused, NoMemory}}, refusal.{Code.TheVariants.{M29, M31, M34}, Refusal.Refusal}}, ByNumber.{no_task, task_at}, Named.{core_names, tasks_on}, Refusals.{when, unless}}
+use Rattle.cl_model.specs.{Refusals.{in_order, first}, Answers.Answers, ValidTasks.{task_key, core_check, priority_check, room_check}}
 use Rattle.cl_model.specs.declared.place.Key.TheVariants as key
-use Rattle.cl_model.specs.declared.refusal.Code.TheVariants.{M29, M31, M34}
-use Rattle.cl_model.specs.declared.refusal.Refusal.{Refusal}
-use Rattle.cl_model.specs.ByNumber.{no_task, task_at}
-use Rattle.cl_model.specs.Named.{core_names, tasks_on}
-use Rattle.cl_model.specs.Refusals.{when, unless, in_order, first}
-use Rattle.cl_model.specs.Answers.{Answers}
-use Rattle.cl_model.specs.ValidTasks.{task_key, core_check, priority_check, room_check}
-use Rattle.cl_edit.specs.FewChecks.{place_refusals}
-use Rattle.cl_edit.specs.declared.pairs.PairFault.TheVariants.{Clash}
-use Rattle.cl_edit.specs.Inner.Pairs.{is_refused, IsAtMost, IsFirstRefused}
-use Rattle.cl_edit.specs.Inner.Places.{place_checks, is_beyond, IsFirstBeyond, first_checks}
+use Rattle.cl_edit.specs.{FewChecks.place_refusals, declared.pairs.PairFault.TheVariants.Clash, Inner.{Pairs.{is_refused, IsAtMost, IsFirstRefused}, Places.{place_checks, is_beyond, IsFirstBeyond, first_checks}}}
 use Rattle.cl_model.proofs.EachFacts.{each_nothing}
 use Rattle.cl_edit.proofs.RefusedTasks.{IsKnown, each_first}
 

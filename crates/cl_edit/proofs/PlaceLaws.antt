@@ -2,28 +2,11 @@
 use Rattle.std.proofs.Common.{◌≡◌, ℕ, ◌<◌, Bool, List, [], ◌∷◌, ◌++◌, length, map, take, get_or, refl, sym, ap, ◌∙◌, arith}
 use Rattle.std.specs.Prelude.{Option, filter}
 use Rattle.std.proofs.lemmas.List.{append-nil}
-use Rattle.cl_model.specs.declared.changes.TaskPriority.{TaskPriority}
-use Rattle.cl_model.specs.declared.model.SystemModel.{SystemModel}
-use Rattle.cl_model.specs.declared.refusal.Refusal.{Refusal}
-use Rattle.cl_model.specs.declared.stimulus.StimulusKind.{StimulusKind}
-use Rattle.cl_model.specs.declared.task.TaskDef.{TaskDef}
-use Rattle.cl_model.specs.ByNumber.{no_task, task_at}
-use Rattle.cl_model.specs.Changes.{with_priorities, with_place}
-use Rattle.cl_model.specs.Named.{same_name, core_names, kind_named, tasks_on}
-use Rattle.cl_model.specs.Refusals.{in_order, each}
-use Rattle.cl_model.specs.ValidNames.{stimulus_checks}
-use Rattle.cl_model.specs.ValidTasks.{core_check, priority_check, late_check, release_check, room_check, deadline_checks}
-use Rattle.cl_model.specs.Validity.{IsValid, refusals_of}
-use Rattle.cl_edit.specs.FewChecks.{priority_refusals, place_refusals, move_refusals}
-use Rattle.cl_edit.specs.declared.pairs.PairFault.TheVariants.{Clash, Outpaced}
-use Rattle.cl_edit.specs.Inner.Pairs.{pair_check, pair_checks}
-use Rattle.cl_model.proofs.EachFacts.{each_alike}
-use Rattle.cl_model.specs.NamedAlike.{named_task, AreNamedAlike}
-use Rattle.cl_model.proofs.NamedAlike.{at_same, length_same, take_same, tasks_long}
-use Rattle.cl_model.proofs.PassedChecks.{stimuli_pass}
-use Rattle.cl_model.proofs.ChecksLeft.{times_checks, rest_check, refusals_left, task_passes, filter-map}
-use Rattle.cl_edit.proofs.SetPriorities.{only_tasks, unranked_same, ranked_long, priorities_alike}
-use Rattle.cl_edit.proofs.TaskSetters.{map_set_same}
+use Rattle.cl_model.specs.{declared.{changes.TaskPriority.TaskPriority, model.SystemModel.SystemModel, refusal.Refusal.Refusal, stimulus.StimulusKind.StimulusKind, task.TaskDef.TaskDef}, ByNumber.{no_task, task_at}, Changes.{with_priorities, with_place}, Named.{same_name, core_names}}
+use Rattle.cl_model.specs.{Named.{kind_named, tasks_on}, Refusals.{in_order, each}, ValidNames.stimulus_checks, ValidTasks.{core_check, priority_check, late_check, release_check, room_check, deadline_checks}, Validity.{IsValid, refusals_of}, NamedAlike.{named_task, AreNamedAlike}}
+use Rattle.cl_edit.specs.{FewChecks.{priority_refusals, place_refusals, move_refusals}, declared.pairs.PairFault.TheVariants.{Clash, Outpaced}, Inner.Pairs.{pair_check, pair_checks}}
+use Rattle.cl_model.proofs.{EachFacts.each_alike, NamedAlike.{at_same, length_same, take_same, tasks_long}, PassedChecks.stimuli_pass, ChecksLeft.{times_checks, rest_check, refusals_left, task_passes, filter-map}}
+use Rattle.cl_edit.proofs.{SetPriorities.{only_tasks, unranked_same, ranked_long, priorities_alike}, TaskSetters.map_set_same}
 
 -- a task without its priority
 abbrev unranked : TaskDef → TaskDef

@@ -12,15 +12,8 @@ use Rattle.std.proofs.lemmas.List.Sums.{AllPass-from_list_all}
 use Rattle.std.proofs.Math.Seq.{get_or-append_seam}
 use Rattle.memchr.specs.Find.{is_byte}
 use Rattle.cl_text.specs.Line.{is_graphic}
-use Rattle.cl_edit.specs.declared.edit.Edit.{Edit}
-use Rattle.cl_edit.specs.declared.version.Version.TheVariants.{Two}
-use Rattle.cl_edit.specs.Lines.{edit_words, edit_text}
-use Rattle.cl_edit.specs.Reading.{IsLineEdit}
-use Rattle.cl_edit.specs.Said.{without_return, is_blank, has_bytes, words_of, plain, says}
-use Rattle.cl_edit.specs.Inner.Words.{with_word}
-use Rattle.cl_edit.proofs.PartFacts.{Lacks}
-use Rattle.cl_edit.proofs.NamesFacts.{lacks_of, words_parts, some_joined}
-use Rattle.cl_edit.proofs.LineMeanings.{AreSpoken, edit_are_words, edit_is_spoken}
+use Rattle.cl_edit.specs.{declared.{edit.Edit.Edit, version.Version.TheVariants.Two}, Lines.{edit_words, edit_text}, Reading.IsLineEdit, Said.{without_return, is_blank, has_bytes, words_of, plain, says}, Inner.Words.with_word}
+use Rattle.cl_edit.proofs.{PartFacts.Lacks, NamesFacts.{lacks_of, words_parts, some_joined}, LineMeanings.{AreSpoken, edit_are_words, edit_is_spoken}}
 
 -- ---- a carriage return at the end
 

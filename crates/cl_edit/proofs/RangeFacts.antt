@@ -4,31 +4,14 @@ use Rattle.std.specs.Prelude.{Option, Some, None, unwrap_or, All, nat_lt, remove
 use Rattle.std.proofs.lemmas.List.{length-set, length-append}
 use Rattle.std.proofs.lemmas.List.Elements.{All-nil, All-cons, All-tail, All-append, All-map}
 use Rattle.std.proofs.lemmas.Bool.Decides.{nat_tests}
-use Rattle.cl_model.specs.declared.limits.TheConstants.{MOST_TICKS, MOST_PRIORITY, MOST_STIMULI, MOST_TASKS, MOST_RUNNABLES, MOST_CHAINS, MOST_REQUIRED, MOST_REQUIREMENTS}
-use Rattle.cl_model.specs.declared.refusal.Code.TheVariants.{M10}
+use Rattle.cl_model.specs.declared.{limits.TheConstants.{MOST_TICKS, MOST_PRIORITY, MOST_STIMULI, MOST_TASKS, MOST_RUNNABLES, MOST_CHAINS, MOST_REQUIRED, MOST_REQUIREMENTS}, refusal.Code.TheVariants.M10, place.Place.Place, model.SystemModel.SystemModel, stimulus.StimulusKind.StimulusKind}
+use Rattle.cl_model.specs.{declared.{stimulus.StimulusDef.StimulusDef, task.{RunnableDef.RunnableDef, TaskDef.TaskDef}, chain.{ChainDef.ChainDef, RequirementDef.RequirementDef}, changes.TaskPriority.TaskPriority}, ByNumber.{stimulus_number, requirement_named, no_task, no_runnable}}
+use Rattle.cl_model.specs.{Groups.step_named, Named.{has_name, requirement_names}, Place.section_place, Ranges.{IsTime, IsBurstCount, IsKindInRange, IsRunnableInRange, IsTaskInRange, IsChainInRange, IsInRange}, Refusals.unless, Changes.{no_stimulus_def, with_period, with_offset}}
+use Rattle.cl_model.specs.Changes.{with_jitter, with_distances, with_burst, with_priority, with_priorities}
 use Rattle.cl_model.specs.declared.place.Part.TheVariants as part
-use Rattle.cl_model.specs.declared.place.Place.{Place}
-use Rattle.cl_model.specs.declared.model.SystemModel.{SystemModel}
-use Rattle.cl_model.specs.declared.stimulus.StimulusKind.{StimulusKind}
 use Rattle.cl_model.specs.declared.stimulus.StimulusKind.TheVariants as pattern
-use Rattle.cl_model.specs.declared.stimulus.StimulusDef.{StimulusDef}
-use Rattle.cl_model.specs.declared.task.RunnableDef.{RunnableDef}
-use Rattle.cl_model.specs.declared.task.TaskDef.{TaskDef}
-use Rattle.cl_model.specs.declared.chain.ChainDef.{ChainDef}
-use Rattle.cl_model.specs.declared.chain.RequirementDef.{RequirementDef}
-use Rattle.cl_model.specs.declared.changes.TaskPriority.{TaskPriority}
-use Rattle.cl_model.specs.ByNumber.{stimulus_number, requirement_named, no_task, no_runnable}
-use Rattle.cl_model.specs.Groups.{step_named}
-use Rattle.cl_model.specs.Named.{has_name, requirement_names}
-use Rattle.cl_model.specs.Place.{section_place}
-use Rattle.cl_model.specs.Ranges.{IsTime, IsBurstCount, IsKindInRange, IsRunnableInRange, IsTaskInRange, IsChainInRange, IsInRange}
-use Rattle.cl_model.specs.Refusals.{unless}
-use Rattle.cl_edit.specs.declared.edit.Edit.{Edit}
-use Rattle.cl_edit.specs.declared.edit.Edit.TheVariants.{Range, Whole, Period, Offset, Jitter, Distances, Burst, Deadline, Swap, Priorities, Move, Kind, AddTask, DropTask, AddChain, DropChain, Requirement, DropRequirement, Report, Tighten, Verify}
-use Rattle.cl_edit.specs.Ranges.{IsEditInRange}
-use Rattle.cl_model.specs.Changes.{no_stimulus_def, with_period, with_offset, with_jitter, with_distances, with_burst, with_priority, with_priorities}
-use Rattle.cl_edit.specs.Changing.{with_change, change_of, task_number, chain_number, by_number, requirement_change}
-use Rattle.cl_edit.specs.Edited.{edit_checks, with_edit}
+use Rattle.cl_edit.specs.{declared.edit.Edit.{Edit, TheVariants.{Range, Whole, Period, Offset, Jitter, Distances, Burst, Deadline, Swap, Priorities, Move, Kind, AddTask, DropTask, AddChain, DropChain, Requirement, DropRequirement, Report, Tighten, Verify}}, Ranges.IsEditInRange}
+use Rattle.cl_edit.specs.{Changing.{with_change, change_of, task_number, chain_number, by_number, requirement_change}, Edited.{edit_checks, with_edit}}
 use Rattle.cl_edit.proofs.FoundFacts.{missing_unknown}
 
 -- ---- lists

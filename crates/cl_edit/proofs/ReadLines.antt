@@ -4,22 +4,10 @@ use Rattle.std.specs.Prelude.{All, map, Ok, Err, nat_le, ◌&&◌, ◌||◌}
 use Rattle.std.proofs.lemmas.List.{append-nil, length-map}
 use Rattle.std.proofs.lemmas.List.Elements.{All-nil, All-head, All-tail}
 use Rattle.std.proofs.lemmas.Bool.Decides.{nat_tests}
-use Rattle.cl_text.specs.declared.fault.LinesFault.{LinesFault}
-use Rattle.cl_text.specs.declared.fault.LinesFault.TheVariants.{BadLine}
-use Rattle.cl_edit.specs.declared.cursor.Cursor.{Cursor}
-use Rattle.cl_edit.specs.declared.edit.Edit.{Edit}
-use Rattle.cl_edit.specs.declared.edit_lines.Counted.{Counted}
-use Rattle.cl_edit.specs.declared.edit_lines.ListedEdit.{ListedEdit}
-use Rattle.cl_edit.specs.declared.limits.TheConstants.{MOST_EDITS, MOST_REPORTS}
-use Rattle.cl_edit.specs.declared.version.Version.{Version}
-use Rattle.cl_edit.specs.Listed.{GivesNext}
-use Rattle.cl_edit.specs.Reading.{IsLineEdit, is_written, edits_of, said_of, AreEditsOf, IsBadEditLine}
-use Rattle.cl_edit.specs.Said.{Said, said_from}
-use Rattle.cl_edit.specs.Inner.Counts.{is_full, with_one, counted_with}
-use Rattle.cl_edit.specs.Inner.Left.{lines_left, said_left, edits_said, edits_left, HasNumbers, AreLeft, AreBehindTitle, ReadsFirst, SaysNone}
-use Rattle.cl_edit.proofs.Listings.{written_in, written_more, HasRoom, edits_more, edits_again, read_first}
-use Rattle.cl_edit.proofs.Titles.{one_title}
-use Rattle.cl_edit.proofs.SomeAnswer.{AreSoFar, all_so_far, none_said, no_room, one_so_far}
+use Rattle.cl_text.specs.declared.fault.LinesFault.{LinesFault, TheVariants.BadLine}
+use Rattle.cl_edit.specs.{declared.{cursor.Cursor.Cursor, edit.Edit.Edit, edit_lines.{Counted.Counted, ListedEdit.ListedEdit}, limits.TheConstants.{MOST_EDITS, MOST_REPORTS}, version.Version.Version}, Listed.GivesNext, Reading.{IsLineEdit, is_written, edits_of, said_of, AreEditsOf}}
+use Rattle.cl_edit.specs.{Reading.IsBadEditLine, Said.{Said, said_from}, Inner.{Counts.{is_full, with_one, counted_with}, Left.{lines_left, said_left, edits_said, edits_left, HasNumbers, AreLeft, AreBehindTitle, ReadsFirst, SaysNone}}}
+use Rattle.cl_edit.proofs.{Listings.{written_in, written_more, HasRoom, edits_more, edits_again, read_first}, Titles.one_title, SomeAnswer.{AreSoFar, all_so_far, none_said, no_room, one_so_far}}
 
 -- ---- counts
 

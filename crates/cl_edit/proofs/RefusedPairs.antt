@@ -5,21 +5,12 @@ use Rattle.std.specs.List.{list_any, range_with_len}
 use Rattle.std.proofs.lemmas.Bool.{eqb-true, eqb-false, eq-eqb, ltb-true, ltb-false, false≢true, cond-true, cond_both}
 use Rattle.std.proofs.lemmas.List.{get_or_default}
 use Rattle.std.proofs.lemmas.List.FromFn.{length-range_with_len, get_or-range_with_len}
-use Rattle.cl_model.specs.declared.changes.TaskPriority.{TaskPriority}
-use Rattle.cl_model.specs.declared.model.SystemModel.{SystemModel}
-use Rattle.cl_model.specs.declared.stimulus.StimulusKind.{StimulusKind}
-use Rattle.cl_model.specs.ByNumber.{task_at, core_of, tasks_of_core}
-use Rattle.cl_model.specs.Validity.{IsValid}
+use Rattle.cl_model.specs.{declared.{changes.TaskPriority.TaskPriority, model.SystemModel.SystemModel, stimulus.StimulusKind.StimulusKind}, ByNumber.{task_at, core_of, tasks_of_core}, Validity.IsValid}
 use Rattle.cl_model.proofs.ListFacts.{both_pass}
-use Rattle.cl_edit.specs.declared.pace.Retiming.{Retiming}
+use Rattle.cl_edit.specs.{declared.{pace.{Retiming.Retiming, Pace.Pace}, pairs.PairFault.{PairFault, TheVariants.{Clash, Outpaced}}}, Inner.{Paces.{with_retiming, IsRetimingOf, is_on, is_touched, core_after, pace_after, pace_of, HasOthers}, Pairs.{is_refused_beside, IsPair, is_refused}}}
+use Rattle.cl_edit.specs.Inner.Pairs.{noted, IsAtMost, IsRefused, HasSeen, IsFirstRefused}
 use Rattle.cl_edit.specs.declared.pace.Retiming.TheVariants as change
-use Rattle.cl_edit.specs.declared.pace.Pace.{Pace}
-use Rattle.cl_edit.specs.declared.pairs.PairFault.{PairFault}
-use Rattle.cl_edit.specs.declared.pairs.PairFault.TheVariants.{Clash, Outpaced}
-use Rattle.cl_edit.specs.Inner.Paces.{with_retiming, IsRetimingOf, is_on, is_touched, core_after, pace_after, pace_of, HasOthers}
-use Rattle.cl_edit.specs.Inner.Pairs.{is_refused_beside, IsPair, is_refused, noted, IsAtMost, IsRefused, HasSeen, IsFirstRefused}
-use Rattle.cl_edit.proofs.RefusedTasks.{IsKnown, pair_refused, refused_pair, no_pair}
-use Rattle.cl_edit.proofs.RetimedTasks.{tasks_kept, change_known, pace_is, core_is, pace_stays, core_stays}
+use Rattle.cl_edit.proofs.{RefusedTasks.{IsKnown, pair_refused, refused_pair, no_pair}, RetimedTasks.{tasks_kept, change_known, pace_is, core_is, pace_stays, core_stays}}
 
 -- ---- numbers that are noted
 

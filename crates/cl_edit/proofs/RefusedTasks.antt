@@ -5,25 +5,10 @@ use Rattle.std.specs.List.{list_any}
 use Rattle.std.specs.Cmp.Lexicographic.{bytes_decides}
 use Rattle.std.proofs.lemmas.Bool.{cond-true, cond_both, or_right, false≢true, false_from_ne_true, ltb-true, lt-ltb}
 use Rattle.std.proofs.lemmas.List.{get_or-take, length-take-le}
-use Rattle.cl_model.specs.declared.model.SystemModel.{SystemModel}
-use Rattle.cl_model.specs.declared.refusal.Refusal.{Refusal}
-use Rattle.cl_model.specs.declared.stimulus.StimulusKind.{StimulusKind}
-use Rattle.cl_model.specs.declared.task.TaskDef.{TaskDef}
-use Rattle.cl_model.specs.ByNumber.{no_stimulus, no_task, task_at, core_of, deadline_of}
-use Rattle.cl_model.specs.Named.{same_name, has_name, index_of, is_some_and, core_names, kind_named}
-use Rattle.cl_model.specs.Refusals.{each_from, each, first}
-use Rattle.cl_model.specs.Timing.{deadline_under}
-use Rattle.cl_model.specs.ValidTasks.{spans_too_many, is_outpaced_by}
-use Rattle.cl_model.specs.Validity.{IsValid}
-use Rattle.cl_model.proofs.ChecksLeft.{task_passes, deadline_none}
-use Rattle.cl_model.proofs.EachFacts.{each_nothing}
-use Rattle.cl_model.proofs.ListFacts.{both_pass, both_true}
-use Rattle.cl_model.proofs.NamePlaces.{known_named}
-use Rattle.cl_model.proofs.NamesKnown.{core_known, stimulus_known}
-use Rattle.cl_edit.specs.declared.pairs.PairFault.{PairFault}
-use Rattle.cl_edit.specs.declared.pairs.PairFault.TheVariants.{Clash, Outpaced}
-use Rattle.cl_edit.specs.Inner.Paces.{pace_of}
-use Rattle.cl_edit.specs.Inner.Pairs.{is_refused_beside, IsPair, is_refused, pair_check, refusal_at, pair_checks, IsFirstRefused}
+use Rattle.cl_model.specs.{declared.{model.SystemModel.SystemModel, refusal.Refusal.Refusal, stimulus.StimulusKind.StimulusKind, task.TaskDef.TaskDef}, ByNumber.{no_stimulus, no_task, task_at, core_of, deadline_of}, Named.{same_name, has_name, index_of, is_some_and, core_names}}
+use Rattle.cl_model.specs.{Named.kind_named, Refusals.{each_from, each, first}, Timing.deadline_under, ValidTasks.{spans_too_many, is_outpaced_by}, Validity.IsValid}
+use Rattle.cl_model.proofs.{ChecksLeft.{task_passes, deadline_none}, EachFacts.each_nothing, ListFacts.{both_pass, both_true}, NamePlaces.known_named, NamesKnown.{core_known, stimulus_known}}
+use Rattle.cl_edit.specs.{declared.pairs.PairFault.{PairFault, TheVariants.{Clash, Outpaced}}, Inner.{Paces.pace_of, Pairs.{is_refused_beside, IsPair, is_refused, pair_check, refusal_at, pair_checks, IsFirstRefused}}}
 
 -- ---- lists
 

@@ -3,29 +3,12 @@ use Rattle.std.proofs.Common.{◌≡◌, ℕ, suc, ◌<◌, ◌≤◌, true, fal
 use Rattle.std.specs.List.{remove}
 use Rattle.std.proofs.lemmas.Bool.{ltb-true, ltb-false}
 use Rattle.std.proofs.lemmas.List.{append-nil, take_all, drop_all, map-append, length-map, length-set, get_or-set_same, get_or-set_other}
-use Rattle.cl_model.specs.declared.chain.RequirementDef.{RequirementDef}
-use Rattle.cl_model.specs.declared.model.SystemModel.{SystemModel}
-use Rattle.cl_model.specs.declared.place.Place.{Place}
+use Rattle.cl_model.specs.{declared.{chain.RequirementDef.RequirementDef, model.SystemModel.SystemModel, place.Place.Place, refusal.Code.TheVariants.{M26, M46}}, ByNumber.{no_requirement, requirement_at}, Named.{has_name, requirement_names}, Place.{entry_of, at_key}, Refusals.each}
+use Rattle.cl_model.specs.{ValidNames.{section_repeats, stimulus_checks}, ValidTasks.{naming_checks, task_check, task_checks}, Validity.{IsValid, chain_check, requirement_check, refusals_of}, Changes.{with_requirement, with_new_requirement, without_requirement}}
 use Rattle.cl_model.specs.declared.place.Part.TheVariants as part
 use Rattle.cl_model.specs.declared.place.Key.TheVariants as key
-use Rattle.cl_model.specs.declared.refusal.Code.TheVariants.{M26, M46}
-use Rattle.cl_model.specs.ByNumber.{no_requirement, requirement_at}
-use Rattle.cl_model.specs.Named.{has_name, requirement_names}
-use Rattle.cl_model.specs.Place.{entry_of, at_key}
-use Rattle.cl_model.specs.Refusals.{each}
-use Rattle.cl_model.specs.ValidNames.{section_repeats, stimulus_checks}
-use Rattle.cl_model.specs.ValidTasks.{naming_checks, task_check, task_checks}
-use Rattle.cl_model.specs.Validity.{IsValid, chain_check, requirement_check, refusals_of}
-use Rattle.cl_model.specs.Changes.{with_requirement, with_new_requirement, without_requirement}
-use Rattle.cl_model.proofs.EachFacts.{each_only}
-use Rattle.cl_model.proofs.NamesApart.{requirements_apart}
-use Rattle.cl_model.proofs.PassedChecks.{stimuli_pass, tasks_pass, deadlines_pass, chains_pass, requirements_pass}
-use Rattle.cl_model.proofs.Refused.{each_none}
-use Rattle.cl_model.proofs.Removals.{stood_at, apart_removed}
-use Rattle.cl_edit.proofs.CheckParts.{name_parts, none_of_names, requirements_left}
-use Rattle.cl_edit.proofs.EachChecked.{each_more, none_of_each, unless_moves, when_false}
-use Rattle.cl_edit.proofs.NameChecks.{apart_pass, repeats_more, map-remove}
-use Rattle.cl_edit.proofs.TaskSetters.{map_set_same}
+use Rattle.cl_model.proofs.{EachFacts.each_only, NamesApart.requirements_apart, PassedChecks.{stimuli_pass, tasks_pass, deadlines_pass, chains_pass, requirements_pass}, Refused.each_none, Removals.{stood_at, apart_removed}}
+use Rattle.cl_edit.proofs.{CheckParts.{name_parts, none_of_names, requirements_left}, EachChecked.{each_more, none_of_each, unless_moves, when_false}, NameChecks.{apart_pass, repeats_more, map-remove}, TaskSetters.map_set_same}
 
 abbrev place : ℕ → Place
 place i = at_key key.Name (entry_of part.Requirement i)

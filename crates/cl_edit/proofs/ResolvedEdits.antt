@@ -4,41 +4,15 @@ use Rattle.std.specs.Prelude.{Result, Option, Some, None, unwrap_or, All}
 use Rattle.std.specs.List.{flat_map}
 use Rattle.std.proofs.lemmas.List.{length-map}
 use Rattle.std.proofs.lemmas.List.Elements.{All-nil, All-cons, All-map}
-use Rattle.cl_model.specs.declared.chain.ChainDef.{ChainDef}
-use Rattle.cl_model.specs.declared.chain.RequirementDef.{RequirementDef}
-use Rattle.cl_model.specs.declared.changes.TaskPriority.{TaskPriority}
-use Rattle.cl_model.specs.declared.limits.TheConstants.{MOST_PRIORITY, MOST_REQUIRED}
-use Rattle.cl_model.specs.declared.model.SystemModel.{SystemModel}
-use Rattle.cl_model.specs.declared.model_fault.ModelFault.{ModelFault}
-use Rattle.cl_model.specs.declared.refusal.Code.TheVariants.{E2}
-use Rattle.cl_model.specs.declared.refusal.Refusal.{Refusal}
-use Rattle.cl_model.specs.declared.stimulus.StimulusDef.{StimulusDef}
-use Rattle.cl_model.specs.declared.stimulus.StimulusKind.{StimulusKind}
-use Rattle.cl_model.specs.declared.task.TaskDef.{TaskDef}
-use Rattle.cl_model.specs.Answers.{Answers, IsFaultOf}
-use Rattle.cl_model.specs.ByNumber.{stimulus_number, task_at, no_task, no_requirement, requirement_named}
-use Rattle.cl_model.specs.Changes.{no_stimulus_def, stimulus_at}
-use Rattle.cl_model.specs.Groups.{step_named, IsStepOf}
-use Rattle.cl_model.specs.Named.{has_name, index_of, task_names, chain_names, requirement_names, stimulus_names, kind_named}
-use Rattle.cl_model.specs.Place.{top}
-use Rattle.cl_model.specs.Ranges.{IsTaskInRange, IsInRange}
-use Rattle.cl_model.specs.Refusals.{first}
-use Rattle.cl_model.specs.Validity.{IsValid, refusals_of}
-use Rattle.cl_model.proofs.FirstRefusals.{fault_of_back, none_of_both}
-use Rattle.cl_model.proofs.NamePlaces.{place_within, found_below, entry_found}
-use Rattle.cl_model.proofs.Refused.{unless_none}
-use Rattle.cl_model.proofs.StepFacts.{step_stands_in}
-use Rattle.cl_edit.specs.declared.change.Change.{Change}
+use Rattle.cl_model.specs.declared.{chain.{ChainDef.ChainDef, RequirementDef.RequirementDef}, changes.TaskPriority.TaskPriority, limits.TheConstants.{MOST_PRIORITY, MOST_REQUIRED}, model.SystemModel.SystemModel, model_fault.ModelFault.ModelFault, refusal.Code.TheVariants.E2}
+use Rattle.cl_model.specs.{declared.{refusal.Refusal.Refusal, stimulus.{StimulusDef.StimulusDef, StimulusKind.StimulusKind}, task.TaskDef.TaskDef}, Answers.{Answers, IsFaultOf}, ByNumber.{stimulus_number, task_at, no_task, no_requirement, requirement_named}, Changes.no_stimulus_def}
+use Rattle.cl_model.specs.{Changes.stimulus_at, Groups.{step_named, IsStepOf}, Named.{has_name, index_of, task_names, chain_names, requirement_names, stimulus_names, kind_named}, Place.top, Ranges.{IsTaskInRange, IsInRange}, Refusals.first, Validity.{IsValid, refusals_of}}
+use Rattle.cl_model.proofs.{FirstRefusals.{fault_of_back, none_of_both}, NamePlaces.{place_within, found_below, entry_found}, Refused.unless_none, StepFacts.step_stands_in}
+use Rattle.cl_edit.specs.declared.{change.Change.Change, edit.{NamedPriority.NamedPriority, Edit.{Edit, TheVariants.{Range, Whole, Period, Offset, Jitter, Distances, Burst, Deadline, Swap, Priorities, Move, Kind, AddTask, DropTask, AddChain, DropChain, Requirement, DropRequirement}}}}
+use Rattle.cl_edit.specs.{declared.edit.Edit.TheVariants.{Report, Tighten, Verify}, Changing.{with_change, IsPriorityOf, IsChangeOf, MayBeMade, task_number, chain_number, kind_change, by_number, exchanged, requirement_change, change_of}, Edited.{found, kind_found, all_names, edit_checks}}
+use Rattle.cl_edit.specs.{Edited.with_edit, Inner.Kinds.{sets, with_numbers}, Ranges.IsEditInRange}
 use Rattle.cl_edit.specs.declared.change.Change.TheVariants as changes
-use Rattle.cl_edit.specs.declared.edit.NamedPriority.{NamedPriority}
-use Rattle.cl_edit.specs.declared.edit.Edit.{Edit}
-use Rattle.cl_edit.specs.declared.edit.Edit.TheVariants.{Range, Whole, Period, Offset, Jitter, Distances, Burst, Deadline, Swap, Priorities, Move, Kind, AddTask, DropTask, AddChain, DropChain, Requirement, DropRequirement, Report, Tighten, Verify}
-use Rattle.cl_edit.specs.Changing.{with_change, IsPriorityOf, IsChangeOf, MayBeMade, task_number, chain_number, kind_change, by_number, exchanged, requirement_change, change_of}
-use Rattle.cl_edit.specs.Edited.{found, kind_found, all_names, edit_checks, with_edit}
-use Rattle.cl_edit.specs.Inner.Kinds.{sets, with_numbers}
-use Rattle.cl_edit.specs.Ranges.{IsEditInRange}
-use Rattle.cl_edit.proofs.EditedValid.{first_none, valid_unless}
-use Rattle.cl_edit.proofs.FoundFacts.{missing_unknown, kind_passes, kind_missing, none_is_first, number_from}
+use Rattle.cl_edit.proofs.{EditedValid.{first_none, valid_unless}, FoundFacts.{missing_unknown, kind_passes, kind_missing, none_is_first, number_from}}
 
 -- ---- what is found
 

@@ -3,27 +3,12 @@ use Rattle.std.proofs.Common.{◌≡◌, ℕ, ◌<◌, Bool, true, false, cond, 
 use Rattle.std.specs.Prelude.{Option, Some, is_some, unwrap_or, ◌==◌}
 use Rattle.std.proofs.lemmas.Bool.{cond_both}
 use Rattle.std.proofs.lemmas.List.{length-set}
-use Rattle.cl_model.specs.declared.model.CoreDef.{CoreDef}
-use Rattle.cl_model.specs.declared.model.SystemModel.{SystemModel}
-use Rattle.cl_model.specs.declared.stimulus.StimulusKind.{StimulusKind}
-use Rattle.cl_model.specs.declared.task.TaskDef.{TaskDef}
-use Rattle.cl_model.specs.ByNumber.{no_stimulus, no_task, no_core, task_at, core_at, core_of}
-use Rattle.cl_model.specs.Changes.{with_priorities}
-use Rattle.cl_model.specs.Named.{has_name, index_of, core_names, kind_named}
-use Rattle.cl_model.specs.Timing.{least_distance}
-use Rattle.cl_model.specs.Validity.{IsValid}
-use Rattle.cl_model.proofs.NamePlaces.{own_entry, found_stands, stands_known}
-use Rattle.cl_model.proofs.NamesApart.{cores_apart}
-use Rattle.cl_model.proofs.NamesKnown.{core_known}
-use Rattle.cl_edit.specs.declared.pace.Retiming.{Retiming}
+use Rattle.cl_model.specs.{declared.{model.{CoreDef.CoreDef, SystemModel.SystemModel}, stimulus.StimulusKind.StimulusKind, task.TaskDef.TaskDef}, ByNumber.{no_stimulus, no_task, no_core, task_at, core_at, core_of}, Changes.with_priorities, Named.{has_name, index_of, core_names}}
+use Rattle.cl_model.specs.{Named.kind_named, Timing.least_distance, Validity.IsValid}
+use Rattle.cl_model.proofs.{NamePlaces.{own_entry, found_stands, stands_known}, NamesApart.cores_apart, NamesKnown.core_known, NamedAlike.at_same}
+use Rattle.cl_edit.specs.{declared.pace.{Retiming.Retiming, Pace.Pace}, Inner.Paces.{with_retiming, IsRetimingOf, is_touched, priority_after, kind_after, given_after, core_after, pace_after, pace_of}}
 use Rattle.cl_edit.specs.declared.pace.Retiming.TheVariants as change
-use Rattle.cl_edit.specs.declared.pace.Pace.{Pace}
-use Rattle.cl_edit.specs.Inner.Paces.{with_retiming, IsRetimingOf, is_touched, priority_after, kind_after, given_after, core_after, pace_after, pace_of}
-use Rattle.cl_model.proofs.NamedAlike.{at_same}
-use Rattle.cl_edit.proofs.ChangedTasks.{set_at, kind_known, kind_after_change}
-use Rattle.cl_edit.proofs.RefusedTasks.{IsKnown}
-use Rattle.cl_edit.proofs.SetPriorities.{only_tasks, unranked_same, ranked_long, unset_stays, priority_at}
-use Rattle.cl_edit.proofs.TaskSetters.{map_set_same}
+use Rattle.cl_edit.proofs.{ChangedTasks.{set_at, kind_known, kind_after_change}, RefusedTasks.IsKnown, SetPriorities.{only_tasks, unranked_same, ranked_long, unset_stays, priority_at}, TaskSetters.map_set_same}
 
 -- ---- the tasks after a change
 

@@ -4,13 +4,7 @@ use Rattle.std.specs.Prelude.{◌==◌}
 use Rattle.std.specs.List.{list_any}
 use Rattle.std.proofs.lemmas.Bool.{eqb-false}
 use Rattle.std.proofs.lemmas.List.{length-set, length-map, get_or-map, get_or-set_other, map-set, take_more, take_all}
-use Rattle.cl_model.specs.declared.changes.TaskPriority.{TaskPriority}
-use Rattle.cl_model.specs.declared.model.SystemModel.{SystemModel}
-use Rattle.cl_model.specs.declared.task.TaskDef.{TaskDef}
-use Rattle.cl_model.specs.ByNumber.{no_task, task_at}
-use Rattle.cl_model.specs.Changes.{with_priority, with_priorities}
-use Rattle.cl_model.specs.Named.{stimulus_names}
-use Rattle.cl_model.specs.NamedAlike.{named_task, AreNamedAlike}
+use Rattle.cl_model.specs.{declared.{changes.TaskPriority.TaskPriority, model.SystemModel.SystemModel, task.TaskDef.TaskDef}, ByNumber.{no_task, task_at}, Changes.{with_priority, with_priorities}, Named.stimulus_names, NamedAlike.{named_task, AreNamedAlike}}
 use Rattle.cl_edit.specs.Inner.Paces.{priorities_of}
 use Rattle.cl_edit.proofs.TaskSetters.{map_set_same}
 

@@ -1,21 +1,10 @@
 -- Lines of fixed length: each is read as an edit exactly where its words are those of the edit.
 use Rattle.std.proofs.Common.{◌≡◌, Option, Some, List, ℕ, Bool, [], ◌∷◌, ◌++◌, refl, sym, ap, ◌∙◌, subst, arith}
 use Rattle.std.specs.Prelude.{codes, decimal}
-use Rattle.cl_model.specs.declared.limits.TheConstants.{MOST_STEPS, MOST_HOPS}
-use Rattle.cl_model.specs.declared.task.AccessKind.{AccessKind}
-use Rattle.cl_model.specs.declared.chain.ChainDef.{ChainDef}
-use Rattle.cl_model.specs.Name.{IsName}
-use Rattle.cl_model.specs.Kinds.{access_word}
-use Rattle.cl_edit.specs.declared.edit.Edit.{Edit}
-use Rattle.cl_edit.specs.declared.edit.Edit.TheVariants.{Range, Whole, Period, Offset, Jitter, Distances, Burst, Deadline, Swap, Move, Kind, DropTask, AddChain, DropChain}
-use Rattle.cl_edit.specs.declared.version.Version.{Version}
-use Rattle.cl_edit.specs.declared.version.Version.TheVariants.{One, Two}
-use Rattle.cl_edit.specs.Lines.{flag_word, deadline_word, names_word, edit_words}
-use Rattle.cl_edit.specs.Reading.{IsLineEdit}
-use Rattle.cl_edit.specs.Inner.LineReads.{name_line, word_line, two_word_line, range_in, whole_in, period_in, offset_in, jitter_in, distances_in, burst_in, deadline_line_in, swap_in, move_in, access_line_in, drop_task_in, drop_chain_in, chain_in}
-use Rattle.cl_edit.proofs.FieldFacts.{IsField, name_field, time_field, ticks_field, priority_field, count_field, flag_field, access_field, deadline_field}
-use Rattle.cl_edit.proofs.NamesFacts.{names_field}
-use Rattle.cl_edit.proofs.WordsFacts.{took, gave, three_words}
+use Rattle.cl_model.specs.{declared.{limits.TheConstants.{MOST_STEPS, MOST_HOPS}, task.AccessKind.AccessKind, chain.ChainDef.ChainDef}, Name.IsName, Kinds.access_word}
+use Rattle.cl_edit.specs.{declared.{edit.Edit.{Edit, TheVariants.{Range, Whole, Period, Offset, Jitter, Distances, Burst, Deadline, Swap, Move, Kind, DropTask, AddChain, DropChain}}, version.Version.{Version, TheVariants.{One, Two}}}, Lines.{flag_word, deadline_word, names_word}}
+use Rattle.cl_edit.specs.{Lines.edit_words, Reading.IsLineEdit, Inner.LineReads.{name_line, word_line, two_word_line, range_in, whole_in, period_in, offset_in, jitter_in, distances_in, burst_in, deadline_line_in, swap_in, move_in, access_line_in, drop_task_in, drop_chain_in, chain_in}}
+use Rattle.cl_edit.proofs.{FieldFacts.{IsField, name_field, time_field, ticks_field, priority_field, count_field, flag_field, access_field, deadline_field}, NamesFacts.names_field, WordsFacts.{took, gave, three_words}}
 
 -- these words of a line are those of an edit, before others that are left
 abbrev pub Says : Version → List (List ℕ) → Edit → List (List ℕ) → Type 0

@@ -2,16 +2,8 @@
 use Rattle.std.proofs.Common.{◌≡◌, ℕ, ◌⊎◌, inl, inr, Option, Some, None, List, [], ◌∷◌, ◌++◌, length, append_assoc, refl, sym, ap, ◌∙◌, subst}
 use Rattle.std.specs.Prelude.{map}
 use Rattle.std.proofs.lemmas.List.{append-nil}
-use Rattle.cl_edit.specs.declared.edit.Edit.{Edit}
-use Rattle.cl_edit.specs.declared.edit_lines.ListedEdit.{ListedEdit}
-use Rattle.cl_edit.specs.declared.version.Version.{Version}
-use Rattle.cl_edit.specs.Lines.{edit_text}
-use Rattle.cl_edit.specs.Reading.{IsLineEdit, MayBeListed, edits_of, said_of, AreEditsOf, IsBadEditLine}
-use Rattle.cl_edit.specs.Said.{Said, said_from, IsTitled}
-use Rattle.cl_edit.specs.Inner.LineReads.{edit_in}
-use Rattle.cl_edit.proofs.LineMeanings.{edit_said, edit_back}
-use Rattle.cl_edit.proofs.Listings.{written_in, HasRoom, room_or_none, listed_none, listed_more, line_of_last, room_of_last, edits_more, said_more}
-use Rattle.cl_edit.proofs.Titles.{title_of}
+use Rattle.cl_edit.specs.{declared.{edit.Edit.Edit, edit_lines.ListedEdit.ListedEdit, version.Version.Version}, Lines.edit_text, Reading.{IsLineEdit, MayBeListed, edits_of, said_of, AreEditsOf, IsBadEditLine}, Said.{Said, said_from, IsTitled}, Inner.LineReads.edit_in}
+use Rattle.cl_edit.proofs.{LineMeanings.{edit_said, edit_back}, Listings.{written_in, HasRoom, room_or_none, listed_none, listed_more, line_of_last, room_of_last, edits_more, said_more}, Titles.title_of}
 
 abbrev HasAnswer : (text : List ℕ) → Type 0
 HasAnswer text = ((listed : List ListedEdit) × AreEditsOf text listed) ⊎ ((number : ℕ) × IsBadEditLine text number)

@@ -5,36 +5,14 @@ use Rattle.std.specs.Prelude.{Option, Some, None, slice_get}
 use Rattle.std.specs.Option.{option_and_then}
 use Rattle.std.proofs.lemmas.Bool.{false_from_ne_true, or_parts, or_from, or_right}
 use Rattle.std.proofs.lemmas.List.{length-map, get_or-map, append-nil}
-use Rattle.cl_model.specs.declared.chain.ChainDef.{ChainDef}
-use Rattle.cl_model.specs.declared.group.Step.{Step}
-use Rattle.cl_model.specs.declared.model.SystemModel.{SystemModel}
-use Rattle.cl_model.specs.declared.place.Place.{Place}
+use Rattle.cl_model.specs.{declared.{chain.ChainDef.ChainDef, group.Step.Step, model.SystemModel.SystemModel, place.Place.Place, refusal.{Code.TheVariants.{M44, M45}, Refusal.Refusal}, task.{RunnableDef.RunnableDef, TaskDef.TaskDef}}, ByNumber.{no_task, task_at, runnable_at, no_runnable}}
+use Rattle.cl_model.specs.{Groups.step_named, Named.{has_name, index_of, is_some_and, runnable_names, runnable_named, all_runnables}, Place.{entry_of, at_key, at_spot}, Refusals.{unless, each}, Validity.{IsValid, misses_label, lengths_check, step_check, hop_check, chain_check}}
+use Rattle.cl_model.specs.Changes.{without_task}
 use Rattle.cl_model.specs.declared.place.Part.TheVariants as part
 use Rattle.cl_model.specs.declared.place.Key.TheVariants as key
-use Rattle.cl_model.specs.declared.refusal.Code.TheVariants.{M44, M45}
-use Rattle.cl_model.specs.declared.refusal.Refusal.{Refusal}
-use Rattle.cl_model.specs.declared.task.RunnableDef.{RunnableDef}
-use Rattle.cl_model.specs.declared.task.TaskDef.{TaskDef}
-use Rattle.cl_model.specs.ByNumber.{no_task, task_at, runnable_at, no_runnable}
-use Rattle.cl_model.specs.Groups.{step_named}
-use Rattle.cl_model.specs.Named.{has_name, index_of, is_some_and, runnable_names, runnable_named, all_runnables}
-use Rattle.cl_model.specs.Place.{entry_of, at_key, at_spot}
-use Rattle.cl_model.specs.Refusals.{unless, each}
-use Rattle.cl_model.specs.Validity.{IsValid, misses_label, lengths_check, step_check, hop_check, chain_check}
-use Rattle.cl_model.proofs.DroppedTasks.{was_step}
-use Rattle.cl_model.proofs.NamePlaces.{known_stands}
-use Rattle.cl_model.proofs.NoRefusals.{all_none}
-use Rattle.cl_model.proofs.PassedChecks.{chains_pass}
-use Rattle.cl_model.proofs.Refused.{unless_none, each_none}
-use Rattle.cl_model.proofs.StepFacts.{runnable_found}
-use Rattle.cl_model.proofs.StepsApart.{one_of_name, own_step}
-use Rattle.cl_model.specs.Changes.{without_task}
+use Rattle.cl_model.proofs.{DroppedTasks.was_step, NamePlaces.known_stands, NoRefusals.all_none, PassedChecks.chains_pass, Refused.{unless_none, each_none}, StepFacts.runnable_found, StepsApart.{one_of_name, own_step}}
 use Rattle.cl_edit.specs.FewListChecks.{kept_step_check, kept_steps_check}
-use Rattle.cl_edit.proofs.CheckParts.{chain_lists}
-use Rattle.cl_edit.proofs.EachChecked.{each_same, each_moves, when_fewer, unless_not}
-use Rattle.cl_edit.proofs.FoundFacts.{found_known}
-use Rattle.cl_edit.proofs.NameChecks.{any_removed, only_other}
-use Rattle.cl_edit.proofs.TaskLists.{name_among}
+use Rattle.cl_edit.proofs.{CheckParts.chain_lists, EachChecked.{each_same, each_moves, when_fewer, unless_not}, FoundFacts.found_known, NameChecks.{any_removed, only_other}, TaskLists.name_among}
 
 -- of three lists where the middle one is left
 middle_left : (a b c : List Refusal) → a ≡ [] → c ≡ [] → a ++ (b ++ (c ++ [])) ≡ b

@@ -7,34 +7,15 @@ use Rattle.std.proofs.lemmas.Grind.{flat_map-append}
 use Rattle.std.proofs.lemmas.List.{append-nil, length-map, length-append, map-append, take-append-le, take_at, get_or_append_left}
 use Rattle.std.proofs.lemmas.List.Folds.{list_any-append}
 use Rattle.std.proofs.lemmas.Option.{slice_get-get_or, slice_get_within, get_or_from_slice_get}
-use Rattle.cl_model.specs.declared.chain.ChainDef.{ChainDef}
-use Rattle.cl_model.specs.declared.limits.TheConstants.{MOST_RUNNABLES_OF_MODEL}
-use Rattle.cl_model.specs.declared.model.SystemModel.{SystemModel}
-use Rattle.cl_model.specs.declared.place.Place.{Place}
+use Rattle.cl_model.specs.declared.{chain.ChainDef.ChainDef, limits.TheConstants.MOST_RUNNABLES_OF_MODEL, model.SystemModel.SystemModel, place.Place.Place, refusal.{Code.TheVariants.{M23, M24, M41, M42, M44, M45}, Refusal.Refusal}, task.{RunnableDef.RunnableDef, TaskDef.TaskDef}}
+use Rattle.cl_model.specs.{Named.{same_name, has_name, index_of, is_some_and, core_names, label_names, task_names, kind_named, runnable_names, runnable_named, tasks_on, all_runnables, labels_written}, ByNumber.no_runnable, Place.{entry_of, at_key, at_sub, at_spot}, Refusals.when}
+use Rattle.cl_model.specs.{Refusals.{in_order, each}, ValidNames.{section_repeats, runnable_repeats, repeats, stimulus_checks}, ValidTasks.{task_key, core_check, stimulus_check, priority_check, late_check, release_check, room_check, empty_check, naming_checks, body_checks, task_check}}
+use Rattle.cl_model.specs.{ValidTasks.{task_checks, is_outpaced_by, deadline_check, deadline_checks}, Validity.{IsValid, step_of, step_check, hop_check, chain_check, refusals_of}, Changes.with_new_task}
 use Rattle.cl_model.specs.declared.place.Part.TheVariants as part
 use Rattle.cl_model.specs.declared.place.Key.TheVariants as key
-use Rattle.cl_model.specs.declared.refusal.Code.TheVariants.{M23, M24, M41, M42, M44, M45}
-use Rattle.cl_model.specs.declared.refusal.Refusal.{Refusal}
-use Rattle.cl_model.specs.declared.task.RunnableDef.{RunnableDef}
-use Rattle.cl_model.specs.declared.task.TaskDef.{TaskDef}
-use Rattle.cl_model.specs.Named.{same_name, has_name, index_of, is_some_and, core_names, label_names, task_names, kind_named, runnable_names, runnable_named, tasks_on, all_runnables, labels_written}
-use Rattle.cl_model.specs.ByNumber.{no_runnable}
-use Rattle.cl_model.specs.Place.{entry_of, at_key, at_sub, at_spot}
-use Rattle.cl_model.specs.Refusals.{when, in_order, each}
-use Rattle.cl_model.specs.ValidNames.{section_repeats, runnable_repeats, repeats, stimulus_checks}
-use Rattle.cl_model.specs.ValidTasks.{task_key, core_check, stimulus_check, priority_check, late_check, release_check, room_check, empty_check, naming_checks, body_checks, task_check, task_checks, is_outpaced_by, deadline_check, deadline_checks}
-use Rattle.cl_model.specs.Validity.{IsValid, step_of, step_check, hop_check, chain_check, refusals_of}
-use Rattle.cl_model.proofs.NamePlaces.{known_place, found_below}
-use Rattle.cl_model.proofs.NamesApart.{tasks_apart, runnables_pass}
-use Rattle.cl_model.proofs.NoRefusals.{all_none, none_in_order}
-use Rattle.cl_model.proofs.PassedChecks.{stimuli_pass, tasks_pass, deadlines_pass, chains_pass, requirements_pass}
-use Rattle.cl_model.proofs.Refused.{when_none, unless_none, each_none}
-use Rattle.cl_model.specs.Changes.{with_new_task}
+use Rattle.cl_model.proofs.{NamePlaces.{known_place, found_below}, NamesApart.{tasks_apart, runnables_pass}, NoRefusals.{all_none, none_in_order}, PassedChecks.{stimuli_pass, tasks_pass, deadlines_pass, chains_pass, requirements_pass}, Refused.{when_none, unless_none, each_none}}
 use Rattle.cl_edit.specs.FewListChecks.{new_task_name_check, new_runnables_check, below_new_check, new_task_checks}
-use Rattle.cl_edit.proofs.CheckParts.{name_parts, task_names_left, names_tasks_deadlines_left, chain_lists}
-use Rattle.cl_edit.proofs.EachChecked.{each_more, each_same, each_moves, unless_true}
-use Rattle.cl_edit.proofs.NameChecks.{apart_pass, repeats_more, known_longer, index_longer}
-use Rattle.cl_edit.proofs.TaskLists.{list_any-filter}
+use Rattle.cl_edit.proofs.{CheckParts.{name_parts, task_names_left, names_tasks_deadlines_left, chain_lists}, EachChecked.{each_more, each_same, each_moves, unless_true}, NameChecks.{apart_pass, repeats_more, known_longer, index_longer}, TaskLists.list_any-filter}
 
 -- M29 to M41 of task i, of which these stand in front, and these up to it
 abbrev pub checks_among : SystemModel → (earlier upto : List TaskDef) → ℕ → TaskDef → List Refusal

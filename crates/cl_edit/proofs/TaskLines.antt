@@ -5,25 +5,10 @@ use Rattle.std.specs.List.{flat_map, list_all}
 use Rattle.std.specs.Option.{option_and_then}
 use Rattle.std.proofs.lemmas.List.{append-nil}
 use Rattle.std.proofs.lemmas.List.Elements.{All-nil, All-cons, All-head, All-tail}
-use Rattle.cl_model.specs.declared.limits.TheConstants.{MOST_PRIORITY, MOST_RUNNABLES, MOST_ACCESSES}
-use Rattle.cl_model.specs.declared.task.RunnableDef.{RunnableDef}
-use Rattle.cl_model.specs.declared.task.TaskDef.{TaskDef}
-use Rattle.cl_model.specs.Name.{IsName}
-use Rattle.cl_model.specs.Ranges.{IsTime, IsRunnableInRange}
-use Rattle.cl_model.specs.AreNamed.{IsRunnableNamed}
-use Rattle.cl_model.specs.Kinds.{access_word}
-use Rattle.cl_edit.specs.declared.edit.Edit.{Edit}
-use Rattle.cl_edit.specs.declared.edit.Edit.TheVariants.{AddTask}
-use Rattle.cl_edit.specs.Lines.{deadline_word, names_word, runnable_words, task_edit_words}
-use Rattle.cl_edit.specs.declared.version.Version.TheVariants.{One, Two}
-use Rattle.cl_edit.specs.Reading.{IsLineEdit}
-use Rattle.cl_edit.specs.Inner.Parts.{with_left, then_read}
-use Rattle.cl_edit.specs.Inner.LineReads.{runnable_in, runnables_in, with_runnables, task_head_in, task_in}
-use Rattle.cl_edit.proofs.FieldFacts.{is_word, name_field, time_field, priority_field, access_field, deadline_field, some_same}
-use Rattle.cl_edit.proofs.NamesFacts.{names_field}
-use Rattle.cl_edit.proofs.WordsFacts.{took, gave}
-use Rattle.cl_edit.proofs.WordLists.{then_some, IsItem, AreGood, list_said, list_back}
-use Rattle.cl_edit.proofs.SimpleLines.{Says, so_says, answer_of}
+use Rattle.cl_model.specs.{declared.{limits.TheConstants.{MOST_PRIORITY, MOST_RUNNABLES, MOST_ACCESSES}, task.{RunnableDef.RunnableDef, TaskDef.TaskDef}}, Name.IsName, Ranges.{IsTime, IsRunnableInRange}, AreNamed.IsRunnableNamed, Kinds.access_word}
+use Rattle.cl_edit.specs.{declared.{edit.Edit.{Edit, TheVariants.AddTask}, version.Version.TheVariants.{One, Two}}, Lines.{deadline_word, names_word, runnable_words, task_edit_words}, Reading.IsLineEdit, Inner.{Parts.{with_left, then_read}, LineReads.{runnable_in, runnables_in}}}
+use Rattle.cl_edit.specs.Inner.LineReads.{with_runnables, task_head_in, task_in}
+use Rattle.cl_edit.proofs.{FieldFacts.{is_word, name_field, time_field, priority_field, access_field, deadline_field, some_same}, NamesFacts.names_field, WordsFacts.{took, gave}, WordLists.{then_some, IsItem, AreGood, list_said, list_back}, SimpleLines.{Says, so_says, answer_of}}
 
 -- ---- runnables
 

@@ -6,15 +6,8 @@ use Rattle.std.specs.Cmp.Lexicographic.{bytes_decides}
 use Rattle.std.proofs.lemmas.Bool.{or_parts}
 use Rattle.std.proofs.lemmas.List.{length-append, take_all}
 use Rattle.std.proofs.lemmas.List.Filters.{length-filter_more}
-use Rattle.cl_model.specs.declared.limits.TheConstants.{MOST_TASKS_OF_CORE}
-use Rattle.cl_model.specs.declared.model.SystemModel.{SystemModel}
-use Rattle.cl_model.specs.declared.task.RunnableDef.{RunnableDef}
-use Rattle.cl_model.specs.declared.task.TaskDef.{TaskDef}
-use Rattle.cl_model.specs.ByNumber.{no_task, task_at}
-use Rattle.cl_model.specs.Named.{same_name, has_name, runnable_names, all_runnables, labels_written, tasks_on}
-use Rattle.cl_model.specs.Validity.{IsValid}
-use Rattle.cl_model.proofs.ListFacts.{list_any-map, list_any-flat_map}
-use Rattle.cl_model.proofs.ValidTasks.{room_left}
+use Rattle.cl_model.specs.{declared.{limits.TheConstants.MOST_TASKS_OF_CORE, model.SystemModel.SystemModel, task.{RunnableDef.RunnableDef, TaskDef.TaskDef}}, ByNumber.{no_task, task_at}, Named.{same_name, has_name, runnable_names, all_runnables, labels_written, tasks_on}, Validity.IsValid}
+use Rattle.cl_model.proofs.{ListFacts.{list_any-map, list_any-flat_map}, ValidTasks.room_left}
 use Rattle.cl_edit.proofs.NameChecks.{any_removed}
 
 -- ---- tests

@@ -6,35 +6,16 @@ use Rattle.std.specs.Cmp.Lexicographic.{bytes_decides}
 use Rattle.std.proofs.lemmas.Bool.{or_parts, or_from, ne_eqb, le-ltb}
 use Rattle.std.proofs.lemmas.List.{length-map}
 use Rattle.std.proofs.lemmas.List.Folds.{list_any-append}
-use Rattle.cl_model.specs.declared.limits.TheConstants.{MOST_RUNNABLES_OF_MODEL}
-use Rattle.cl_model.specs.declared.model.SystemModel.{SystemModel}
-use Rattle.cl_model.specs.declared.place.Place.{Place}
+use Rattle.cl_model.specs.{declared.{limits.TheConstants.MOST_RUNNABLES_OF_MODEL, model.SystemModel.SystemModel, place.Place.Place, refusal.Code.TheVariants.{M23, M24, M31, M34, M37, M38, M39, M40, M41, M42}, task.{RunnableDef.RunnableDef, TaskDef.TaskDef}}, ByNumber.no_task}
+use Rattle.cl_model.specs.{Named.{same_name, has_name, core_names, label_names, task_names, kind_named, runnable_names, tasks_on, all_runnables, labels_written}, Place.{entry_of, at_key, at_sub, at_spot}, Refusals.each, ValidNames.{section_repeats, repeat_check, runnable_repeats}}
+use Rattle.cl_model.specs.{ValidNames.{stimulus_checks, name_checks}, ValidTasks.{core_check, stimulus_check, priority_check, late_check, release_check, room_check, empty_check, naming_checks, label_check, writer_check, times_check, reads_check, writes_check, twice_check, contest_check}}
+use Rattle.cl_model.specs.{ValidTasks.{runnable_checks, body_check, body_checks, count_check, task_check, task_checks, is_outpaced_by, deadline_check, deadline_checks}, Validity.{IsValid, refusals_of}, Changes.without_task}
 use Rattle.cl_model.specs.declared.place.Part.TheVariants as part
 use Rattle.cl_model.specs.declared.place.Key.TheVariants as key
-use Rattle.cl_model.specs.declared.refusal.Code.TheVariants.{M23, M24, M31, M34, M37, M38, M39, M40, M41, M42}
-use Rattle.cl_model.specs.declared.task.RunnableDef.{RunnableDef}
-use Rattle.cl_model.specs.declared.task.TaskDef.{TaskDef}
-use Rattle.cl_model.specs.ByNumber.{no_task}
-use Rattle.cl_model.specs.Named.{same_name, has_name, core_names, label_names, task_names, kind_named, runnable_names, tasks_on, all_runnables, labels_written}
-use Rattle.cl_model.specs.Place.{entry_of, at_key, at_sub, at_spot}
-use Rattle.cl_model.specs.Refusals.{each}
-use Rattle.cl_model.specs.ValidNames.{section_repeats, repeat_check, runnable_repeats, stimulus_checks, name_checks}
-use Rattle.cl_model.specs.ValidTasks.{core_check, stimulus_check, priority_check, late_check, release_check, room_check, empty_check, naming_checks, label_check, writer_check, times_check, reads_check}
-use Rattle.cl_model.specs.ValidTasks.{writes_check, twice_check, contest_check, runnable_checks, body_check, body_checks, count_check, task_check, task_checks, is_outpaced_by, deadline_check, deadline_checks}
-use Rattle.cl_model.specs.Validity.{IsValid, refusals_of}
-use Rattle.cl_model.proofs.NamesApart.{tasks_apart, runnables_pass}
-use Rattle.cl_model.proofs.NoRefusals.{all_none, none_in_order}
-use Rattle.cl_model.proofs.PassedChecks.{stimuli_pass, tasks_pass, deadlines_pass, requirements_pass}
-use Rattle.cl_model.proofs.Refused.{each_none}
-use Rattle.cl_model.proofs.ValidTasks.{few_runnables}
-use Rattle.cl_model.specs.Changes.{without_task}
+use Rattle.cl_model.proofs.{NamesApart.{tasks_apart, runnables_pass}, NoRefusals.{all_none, none_in_order}, PassedChecks.{stimuli_pass, tasks_pass, deadlines_pass, requirements_pass}, Refused.each_none, ValidTasks.few_runnables, Removals.{StoodAt, stood_at, apart_removed}}
 use Rattle.cl_edit.specs.FewListChecks.{dropped_task_checks}
-use Rattle.cl_edit.proofs.CheckParts.{name_parts, none_of_names, chains_left}
-use Rattle.cl_edit.proofs.EachChecked.{none_of_each, each_moves, when_moves, unless_moves, when_false, when_fewer}
-use Rattle.cl_edit.proofs.NameChecks.{apart_pass, map-remove}
-use Rattle.cl_model.proofs.Removals.{StoodAt, stood_at, apart_removed}
-use Rattle.cl_edit.proofs.StepsLeft.{chains_without}
-use Rattle.cl_edit.proofs.TaskLists.{list_any-filter, name_among, written_among, none_left, fewer_taken, fewer_left, filter_left, filter_front, few_on_core}
+use Rattle.cl_edit.proofs.{CheckParts.{name_parts, none_of_names, chains_left}, EachChecked.{none_of_each, each_moves, when_moves, unless_moves, when_false, when_fewer}, NameChecks.{apart_pass, map-remove}, StepsLeft.chains_without, TaskLists.{list_any-filter, name_among, written_among}}
+use Rattle.cl_edit.proofs.TaskLists.{none_left, fewer_taken, fewer_left, filter_left, filter_front, few_on_core}
 
 module _ (model : SystemModel) (valid : IsValid model) (t : ℕ) (known : t < length model.tasks) where
   abbrev left : SystemModel

@@ -2,30 +2,13 @@
 use Rattle.std.proofs.Common.{◌≡◌, ℕ, zero, suc, ◌<◌, Bool, List, [], ◌∷◌, ◌++◌, length, map, get_or, set, refl, sym, ap, ◌∙◌, arith, append_assoc}
 use Rattle.std.specs.Prelude.{Option}
 use Rattle.std.proofs.lemmas.List.{append-nil, map-set, length-set, get_or-set_same, get_or-set_other}
-use Rattle.cl_model.specs.declared.group.Step.{Step}
-use Rattle.cl_model.specs.declared.model.SystemModel.{SystemModel}
-use Rattle.cl_model.specs.declared.refusal.Code.TheVariants.{M42}
-use Rattle.cl_model.specs.declared.refusal.Refusal.{Refusal}
-use Rattle.cl_model.specs.declared.task.AccessKind.{AccessKind}
-use Rattle.cl_model.specs.declared.task.RunnableDef.{RunnableDef}
-use Rattle.cl_model.specs.declared.task.TaskDef.{TaskDef}
+use Rattle.cl_model.specs.{declared.{group.Step.Step, model.SystemModel.SystemModel, refusal.{Code.TheVariants.M42, Refusal.Refusal}, task.{AccessKind.AccessKind, RunnableDef.RunnableDef, TaskDef.TaskDef}}, ByNumber.{no_task, no_runnable, task_at, runnable_at}, Groups.IsStepOf}
+use Rattle.cl_model.specs.{Named.{kind_named, tasks_on}, Place.{entry_of, at_sub}, Refusals.{when, in_order, each}, ValidNames.stimulus_checks, ValidTasks.{task_key, times_check, late_check, release_check, deadline_check, deadline_checks}, Validity.{IsValid, refusals_of}}
+use Rattle.cl_model.specs.{Changes.{with_range, with_whole, with_task, with_deadline, with_access}, NamedAlike.{named_runnable, named_task, AreNamedAlike}}
 use Rattle.cl_model.specs.declared.place.Part.TheVariants as part
 use Rattle.cl_model.specs.declared.place.Key.TheVariants as key
-use Rattle.cl_model.specs.ByNumber.{no_task, no_runnable, task_at, runnable_at}
-use Rattle.cl_model.specs.Groups.{IsStepOf}
-use Rattle.cl_model.specs.Named.{kind_named, tasks_on}
-use Rattle.cl_model.specs.Place.{entry_of, at_sub}
-use Rattle.cl_model.specs.Refusals.{when, in_order, each}
-use Rattle.cl_model.specs.ValidNames.{stimulus_checks}
-use Rattle.cl_model.specs.ValidTasks.{task_key, times_check, late_check, release_check, deadline_check, deadline_checks}
-use Rattle.cl_model.specs.Validity.{IsValid, refusals_of}
-use Rattle.cl_model.proofs.Refused.{each_none}
-use Rattle.cl_model.specs.Changes.{with_range, with_whole, with_task, with_deadline, with_access}
+use Rattle.cl_model.proofs.{Refused.each_none, EachFacts.each_only, PassedChecks.stimuli_pass, ChecksLeft.{placed, on_core_same, outpaced_same, times_checks, timing_check, task_passes, deadline_none, times_left_of}}
 use Rattle.cl_edit.specs.FewChecks.{range_refusals, deadline_refusals}
-use Rattle.cl_model.proofs.EachFacts.{each_only}
-use Rattle.cl_model.specs.NamedAlike.{named_runnable, named_task, AreNamedAlike}
-use Rattle.cl_model.proofs.PassedChecks.{stimuli_pass}
-use Rattle.cl_model.proofs.ChecksLeft.{placed, on_core_same, outpaced_same, times_checks, timing_check, task_passes, deadline_none, times_left_of}
 
 -- ---- lists
 

@@ -5,14 +5,8 @@ use Rattle.std.specs.Str.{bytes_eq}
 use Rattle.std.proofs.lemmas.Slice.Eq.{bytes_eq-Decides}
 use denote.Bor.{Bor}
 use Rattle.cl_model.proofs.ListFacts.{both_pass}
-use Rattle.cl_edit.specs.declared.version.Version.{Version}
-use Rattle.cl_edit.specs.declared.version.Version.TheVariants.{One, Two}
-use Rattle.cl_edit.specs.Said.{lines, plain, without_mark, IsTitled}
-use Rattle.cl_edit.specs.Reading.{LacksTitle}
-use Rattle.cl_edit.specs.Inner.Left.{lines_left, version_in}
-use Rattle.cl_edit.specs.Inner.Parts.{parts}
-use Rattle.cl_edit.proofs.FieldFacts.{both_true, choose, chosen, some_same, of_word}
-use Rattle.cl_edit.proofs.PartFacts.{some_part}
+use Rattle.cl_edit.specs.{declared.version.Version.{Version, TheVariants.{One, Two}}, Said.{lines, plain, without_mark, IsTitled}, Reading.LacksTitle, Inner.{Left.{lines_left, version_in}, Parts.parts}}
+use Rattle.cl_edit.proofs.{FieldFacts.{both_true, choose, chosen, some_same, of_word}, PartFacts.some_part}
 
 -- ---- one title
 

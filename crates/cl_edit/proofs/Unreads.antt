@@ -2,10 +2,8 @@
 use Rattle.std.proofs.Common.{◌≡◌, ℕ, Option, sym, subst, ◌∙◌}
 use Rattle.std.specs.Prelude.{Result, Ok, Err}
 use Rattle.std.specs.Result.{IsErr, IsErrAnd}
-use Rattle.cl_edit.specs.declared.fault.Unread.{Unread}
-use Rattle.cl_text.specs.declared.fault.LinesFault.{LinesFault}
-use Rattle.cl_text.specs.declared.fault.LinesFault.TheVariants.{BadLine}
-use Rattle.cl_edit.specs.Inner.Parts.{ReadsPart}
+use Rattle.cl_edit.specs.{declared.fault.Unread.Unread, Inner.Parts.ReadsPart}
+use Rattle.cl_text.specs.declared.fault.LinesFault.{LinesFault, TheVariants.BadLine}
 
 pub kept_unread : {X : Type 0} (result : Result X Unread) (fault : Unread) (meaning : Option X) → IsErr result × IsErrAnd result (λ e. e ≡ fault)
     → ReadsPart {X = X} (Err fault) meaning → ReadsPart result meaning

@@ -4,10 +4,7 @@ use Rattle.std.specs.Prelude.{Err}
 use Rattle.std.specs.List.{flat_map}
 use Rattle.std.specs.Option.{option_map}
 use Rattle.std.proofs.lemmas.List.{append-nil}
-use Rattle.cl_edit.specs.declared.fault.Unread.{Unread}
-use Rattle.cl_edit.specs.declared.fault.Unread.TheVariants.{Bad, NoMemory}
-use Rattle.cl_edit.specs.Inner.Parts.{then_read, ReadsPart, ReadsUpTo}
-use Rattle.cl_edit.specs.Inner.LineReads.{list_in}
+use Rattle.cl_edit.specs.{declared.fault.Unread.{Unread, TheVariants.{Bad, NoMemory}}, Inner.{Parts.{then_read, ReadsPart, ReadsUpTo}, LineReads.list_in}}
 use Rattle.cl_edit.proofs.FieldFacts.{some_same}
 
 -- something was read, and the rest behind it

@@ -1,21 +1,11 @@
 -- A change of a model by numbers, and which change an edit is. Times are in ticks.
 use Rattle.std.specs.Prelude.{◌≡◌, ℕ, ◌<◌, ◌≤◌, false, List, [], ◌∷◌, length, map, Option, Some, None, unwrap_or, All}
-use Rattle.cl_model.specs.declared.changes.TaskPriority.{TaskPriority}
-use Rattle.cl_model.specs.declared.chain.RequirementDef.{RequirementDef}
-use Rattle.cl_model.specs.declared.limits.TheConstants.{MOST_PRIORITY, MOST_REQUIRED}
-use Rattle.cl_model.specs.declared.model.SystemModel.{SystemModel}
-use Rattle.cl_model.specs.declared.stimulus.StimulusKind.{StimulusKind}
-use Rattle.cl_model.specs.ByNumber.{task_at, requirement_at, stimulus_number, task_named, chain_named, requirement_named}
-use Rattle.cl_model.specs.Changes.{stimulus_at, with_range, with_whole, with_kind, with_period, with_offset, with_jitter, with_distances, with_burst, with_deadline, with_priorities, with_place, with_access, with_new_task, without_task, with_new_chain, without_chain, with_requirement, with_new_requirement, without_requirement}
-use Rattle.cl_model.specs.Groups.{step_named, IsStepOf}
-use Rattle.cl_model.specs.Named.{has_name, requirement_names}
-use Rattle.cl_model.specs.Ranges.{IsTaskInRange, IsChainInRange}
-use Rattle.cl_model.specs.Validity.{IsValid}
-use Rattle.cl_edit.specs.declared.change.Change.{Change}
+use Rattle.cl_model.specs.{declared.{changes.TaskPriority.TaskPriority, chain.RequirementDef.RequirementDef, limits.TheConstants.{MOST_PRIORITY, MOST_REQUIRED}, model.SystemModel.SystemModel, stimulus.StimulusKind.StimulusKind}, ByNumber.{task_at, requirement_at, stimulus_number}}
+use Rattle.cl_model.specs.{ByNumber.{task_named, chain_named, requirement_named}, Changes.{stimulus_at, with_range, with_whole, with_kind, with_period, with_offset, with_jitter, with_distances, with_burst, with_deadline, with_priorities, with_place, with_access, with_new_task}}
+use Rattle.cl_model.specs.{Changes.{without_task, with_new_chain, without_chain, with_requirement, with_new_requirement, without_requirement}, Groups.{step_named, IsStepOf}, Named.{has_name, requirement_names}, Ranges.{IsTaskInRange, IsChainInRange}, Validity.IsValid}
+use Rattle.cl_edit.specs.declared.{change.Change.Change, edit.{NamedPriority.NamedPriority, Edit.{Edit, TheVariants.{Range, Whole, Period, Offset, Jitter, Distances, Burst, Deadline, Swap, Priorities, Move, Kind, AddTask, DropTask, AddChain, DropChain, Requirement, DropRequirement}}}}
+use Rattle.cl_edit.specs.declared.edit.Edit.TheVariants.{Report, Tighten, Verify}
 use Rattle.cl_edit.specs.declared.change.Change.TheVariants as changes
-use Rattle.cl_edit.specs.declared.edit.NamedPriority.{NamedPriority}
-use Rattle.cl_edit.specs.declared.edit.Edit.{Edit}
-use Rattle.cl_edit.specs.declared.edit.Edit.TheVariants.{Range, Whole, Period, Offset, Jitter, Distances, Burst, Deadline, Swap, Priorities, Move, Kind, AddTask, DropTask, AddChain, DropChain, Requirement, DropRequirement, Report, Tighten, Verify}
 
 -- ---- changes
 

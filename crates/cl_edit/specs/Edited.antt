@@ -1,21 +1,11 @@
 -- What an edit makes of a model: the changed model, or the first refusal.
 use Rattle.std.specs.Prelude.{Bool, true, false, ◌||◌, nat_lt, List, [], ◌∷◌, ◌++◌, length, Option, Some, None, Result, Ok, Err, ℕ}
 use Rattle.std.specs.List.{flat_map}
-use Rattle.cl_model.specs.declared.limits.TheConstants.{MOST_TASKS, MOST_CHAINS, MOST_REQUIREMENTS}
+use Rattle.cl_model.specs.{declared.{limits.TheConstants.{MOST_TASKS, MOST_CHAINS, MOST_REQUIREMENTS}, refusal.{Code.TheVariants.{M10, E2, E3}, Refusal.Refusal}, model.SystemModel.SystemModel, stimulus.StimulusKind.StimulusKind}, Named.{has_name, task_names, chain_names}}
+use Rattle.cl_model.specs.{Named.{requirement_names, runnable_names, all_runnables, kind_named}, Place.{top, section_place}, Refusals.{refuse, unless, answer}, Validity.refusals_of, Kinds.is_periodic}
 use Rattle.cl_model.specs.declared.place.Part.TheVariants as part
-use Rattle.cl_model.specs.declared.refusal.Code.TheVariants.{M10, E2, E3}
-use Rattle.cl_model.specs.declared.refusal.Refusal.{Refusal}
-use Rattle.cl_model.specs.declared.model.SystemModel.{SystemModel}
-use Rattle.cl_model.specs.declared.stimulus.StimulusKind.{StimulusKind}
 use Rattle.cl_model.specs.declared.stimulus.StimulusKind.TheVariants as pattern
-use Rattle.cl_model.specs.Named.{has_name, task_names, chain_names, requirement_names, runnable_names, all_runnables, kind_named}
-use Rattle.cl_model.specs.Place.{top, section_place}
-use Rattle.cl_model.specs.Refusals.{refuse, unless, answer}
-use Rattle.cl_model.specs.Validity.{refusals_of}
-use Rattle.cl_model.specs.Kinds.{is_periodic}
-use Rattle.cl_edit.specs.declared.edit.NamedPriority.{NamedPriority}
-use Rattle.cl_edit.specs.declared.edit.Edit.{Edit}
-use Rattle.cl_edit.specs.declared.edit.Edit.TheVariants.{Range, Whole, Period, Offset, Jitter, Distances, Burst, Deadline, Swap, Priorities, Move, Kind, AddTask, DropTask, AddChain, DropChain, Requirement, DropRequirement, Report, Tighten, Verify}
+use Rattle.cl_edit.specs.declared.edit.{NamedPriority.NamedPriority, Edit.{Edit, TheVariants.{Range, Whole, Period, Offset, Jitter, Distances, Burst, Deadline, Swap, Priorities, Move, Kind, AddTask, DropTask, AddChain, DropChain, Requirement, DropRequirement, Report, Tighten, Verify}}}
 use Rattle.cl_edit.specs.Changing.{with_change, change_of}
 
 -- ---- what an edit looks up

@@ -2,22 +2,11 @@
 -- Each stands at the place that it has in the changed model. Times are in ticks.
 use Rattle.std.specs.Prelude.{ℕ, Bool, ◌&&◌, ◌||◌, nat_lt, if◌then◌else◌, List, [], ◌∷◌, length, take, Option, Some}
 use Rattle.std.specs.List.{list_any}
-use Rattle.cl_model.specs.declared.changes.TaskPriority.{TaskPriority}
-use Rattle.cl_model.specs.declared.group.Step.{Step}
-use Rattle.cl_model.specs.declared.model.SystemModel.{SystemModel}
+use Rattle.cl_model.specs.{declared.{changes.TaskPriority.TaskPriority, group.Step.Step, model.SystemModel.SystemModel, refusal.{Code.TheVariants.{M27, M28, M36, M42, M47}, Refusal.Refusal}, stimulus.StimulusKind.StimulusKind, task.TaskDef.TaskDef}, ByNumber.task_at, Changes.stimulus_at}
+use Rattle.cl_model.specs.{Changes.{with_kind, with_priorities, with_place}, Named.{same_name, core_names, kind_named, tasks_on}, Place.{entry_of, at_key, at_sub}, Refusals.{when, in_order, each}, ValidNames.{has_late_offset, has_no_distance, has_long_burst}, ValidTasks.task_key}
+use Rattle.cl_model.specs.ValidTasks.{core_check, priority_check, late_check, release_check, room_check, is_outpaced_by, deadline_check, deadline_checks}
 use Rattle.cl_model.specs.declared.place.Key.TheVariants as key
 use Rattle.cl_model.specs.declared.place.Part.TheVariants as part
-use Rattle.cl_model.specs.declared.refusal.Code.TheVariants.{M27, M28, M36, M42, M47}
-use Rattle.cl_model.specs.declared.refusal.Refusal.{Refusal}
-use Rattle.cl_model.specs.declared.stimulus.StimulusKind.{StimulusKind}
-use Rattle.cl_model.specs.declared.task.TaskDef.{TaskDef}
-use Rattle.cl_model.specs.ByNumber.{task_at}
-use Rattle.cl_model.specs.Changes.{stimulus_at, with_kind, with_priorities, with_place}
-use Rattle.cl_model.specs.Named.{same_name, core_names, kind_named, tasks_on}
-use Rattle.cl_model.specs.Place.{entry_of, at_key, at_sub}
-use Rattle.cl_model.specs.Refusals.{when, in_order, each}
-use Rattle.cl_model.specs.ValidNames.{has_late_offset, has_no_distance, has_long_burst}
-use Rattle.cl_model.specs.ValidTasks.{task_key, core_check, priority_check, late_check, release_check, room_check, is_outpaced_by, deadline_check, deadline_checks}
 
 -- other execution times of a runnable: the least doesn't exceed the greatest
 abbrev pub range_refusals : Step → (least greatest : ℕ) → List Refusal

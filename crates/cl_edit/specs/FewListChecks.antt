@@ -1,23 +1,11 @@
 -- What an edit that adds or drops a task or a chain can break in a valid model. The changed model is refused by these
 -- checks alone, in this order.
 use Rattle.std.specs.Prelude.{ℕ, ◌&&◌, List, [], ◌∷◌, length}
-use Rattle.cl_model.specs.declared.chain.ChainDef.{ChainDef}
-use Rattle.cl_model.specs.declared.chain.RequirementDef.{RequirementDef}
-use Rattle.cl_model.specs.declared.model.SystemModel.{SystemModel}
-use Rattle.cl_model.specs.declared.place.Place.{Place}
+use Rattle.cl_model.specs.{declared.{chain.{ChainDef.ChainDef, RequirementDef.RequirementDef}, model.SystemModel.SystemModel, place.Place.Place, refusal.{Code.TheVariants.{M23, M24, M25, M42, M44, M46}, Refusal.Refusal}, task.TaskDef.TaskDef}, ByNumber.{task_at, chain_at}, Named.same_name}
+use Rattle.cl_model.specs.{Named.{has_name, task_names, chain_names, runnable_names, all_runnables}, Place.{entry_of, at_key, at_sub, at_spot}, Refusals.{when, in_order, each}, ValidNames.repeats, ValidTasks.{task_key, task_check, is_outpaced_by, deadline_check}, Validity.chain_check}
+use Rattle.cl_model.specs.Changes.{with_new_task}
 use Rattle.cl_model.specs.declared.place.Part.TheVariants as part
 use Rattle.cl_model.specs.declared.place.Key.TheVariants as key
-use Rattle.cl_model.specs.declared.refusal.Code.TheVariants.{M23, M24, M25, M42, M44, M46}
-use Rattle.cl_model.specs.declared.refusal.Refusal.{Refusal}
-use Rattle.cl_model.specs.declared.task.TaskDef.{TaskDef}
-use Rattle.cl_model.specs.ByNumber.{task_at, chain_at}
-use Rattle.cl_model.specs.Named.{same_name, has_name, task_names, chain_names, runnable_names, all_runnables}
-use Rattle.cl_model.specs.Place.{entry_of, at_key, at_sub, at_spot}
-use Rattle.cl_model.specs.Refusals.{when, in_order, each}
-use Rattle.cl_model.specs.ValidNames.{repeats}
-use Rattle.cl_model.specs.ValidTasks.{task_key, task_check, is_outpaced_by, deadline_check}
-use Rattle.cl_model.specs.Validity.{chain_check}
-use Rattle.cl_model.specs.Changes.{with_new_task}
 
 -- ---- a new task, which gets the next number
 

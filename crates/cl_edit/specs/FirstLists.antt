@@ -2,10 +2,7 @@
 use Rattle.std.specs.Prelude.{◌≡◌, ℕ, ◌+◌, List, [], ◌∷◌, ◌++◌, codes}
 use Rattle.std.specs.List.{flat_map}
 use Rattle.cl_text.specs.Line.{line}
-use Rattle.cl_edit.specs.declared.edit_lines.ListedEdit.{ListedEdit}
-use Rattle.cl_edit.specs.declared.version.Version.TheVariants.{One}
-use Rattle.cl_edit.specs.Lines.{edit_text}
-use Rattle.cl_edit.specs.Reading.{MayBeListed, edits_of}
+use Rattle.cl_edit.specs.{declared.{edit_lines.ListedEdit.ListedEdit, version.Version.TheVariants.One}, Lines.edit_text, Reading.{MayBeListed, edits_of}}
 
 -- the lines of edits are numbered one after another, from this number
 abbrev pub AreNumberedFrom : (line : ℕ) → List ListedEdit → Type 0

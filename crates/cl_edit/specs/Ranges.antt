@@ -1,11 +1,8 @@
 -- Which edits are in range: each number is one that a model file may have at the key that the edit sets, and each list
 -- is one that a model file may have. Times are in ticks.
 use Rattle.std.specs.Prelude.{◌≤◌, List, length, IfSome, All}
-use Rattle.cl_model.specs.declared.limits.TheConstants.{MOST_TICKS, MOST_PRIORITY, MOST_TASKS, MOST_REQUIRED}
-use Rattle.cl_model.specs.Ranges.{IsTime, IsBurstCount, IsTaskInRange, IsChainInRange}
-use Rattle.cl_edit.specs.declared.edit.NamedPriority.{NamedPriority}
-use Rattle.cl_edit.specs.declared.edit.Edit.{Edit}
-use Rattle.cl_edit.specs.declared.edit.Edit.TheVariants.{Range, Whole, Period, Offset, Jitter, Distances, Burst, Deadline, Swap, Priorities, Move, Kind, AddTask, DropTask, AddChain, DropChain, Requirement, DropRequirement, Report, Tighten, Verify}
+use Rattle.cl_model.specs.{declared.limits.TheConstants.{MOST_TICKS, MOST_PRIORITY, MOST_TASKS, MOST_REQUIRED}, Ranges.{IsTime, IsBurstCount, IsTaskInRange, IsChainInRange}}
+use Rattle.cl_edit.specs.declared.edit.{NamedPriority.NamedPriority, Edit.{Edit, TheVariants.{Range, Whole, Period, Offset, Jitter, Distances, Burst, Deadline, Swap, Priorities, Move, Kind, AddTask, DropTask, AddChain, DropChain, Requirement, DropRequirement, Report, Tighten, Verify}}}
 
 -- few enough priorities, each in range
 pub record ArePrioritiesInRange (priorities : List NamedPriority) : Type 0 where

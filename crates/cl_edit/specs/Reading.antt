@@ -1,19 +1,9 @@
 -- Which edits a text lists, and which line of a text is the first bad one.
 use Rattle.std.specs.Prelude.{◌≡◌, ℕ, ◌≤◌, ◌⊎◌, Bool, true, false, List, [], ◌∷◌, ◌++◌, length, map, All}
 use Rattle.std.specs.List.{count_by}
-use Rattle.cl_model.specs.Name.{IsName}
-use Rattle.cl_model.specs.AreNamed.{IsTaskNamed, IsChainNamed, IsRequirementNamed}
-use Rattle.cl_edit.specs.declared.limits.TheConstants.{MOST_EDITS, MOST_REPORTS}
-use Rattle.cl_model.specs.NameSets.{AreDistinctNames}
-use Rattle.cl_edit.specs.declared.edit.NamedPriority.{NamedPriority}
-use Rattle.cl_edit.specs.declared.edit.Edit.{Edit}
-use Rattle.cl_edit.specs.declared.edit.Edit.TheVariants.{Range, Whole, Period, Offset, Jitter, Distances, Burst, Deadline, Swap, Priorities, Move, Kind, AddTask, DropTask, AddChain, DropChain, Requirement, DropRequirement, Report, Tighten, Verify}
-use Rattle.cl_edit.specs.Ranges.{IsEditInRange}
-use Rattle.cl_edit.specs.declared.edit_lines.ListedEdit.{ListedEdit}
-use Rattle.cl_edit.specs.declared.version.Version.{Version}
-use Rattle.cl_edit.specs.declared.version.Version.TheVariants.{One, Two}
-use Rattle.cl_edit.specs.Lines.{edit_text}
-use Rattle.cl_edit.specs.Said.{Said, said_from, IsTitled}
+use Rattle.cl_model.specs.{Name.IsName, AreNamed.{IsTaskNamed, IsChainNamed, IsRequirementNamed}, NameSets.AreDistinctNames}
+use Rattle.cl_edit.specs.declared.{limits.TheConstants.{MOST_EDITS, MOST_REPORTS}, edit.{NamedPriority.NamedPriority, Edit.{Edit, TheVariants.{Range, Whole, Period, Offset, Jitter, Distances, Burst, Deadline, Swap, Priorities, Move, Kind, AddTask, DropTask, AddChain, DropChain}}}}
+use Rattle.cl_edit.specs.{declared.{edit.Edit.TheVariants.{Requirement, DropRequirement, Report, Tighten, Verify}, edit_lines.ListedEdit.ListedEdit, version.Version.{Version, TheVariants.{One, Two}}}, Ranges.IsEditInRange, Lines.edit_text, Said.{Said, said_from, IsTitled}}
 
 -- ---- which edits have a line
 

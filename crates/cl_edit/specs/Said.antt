@@ -2,8 +2,7 @@
 use Rattle.std.specs.Prelude.{◌≡◌, ◌≢◌, ℕ, ◌+◌, Bool, true, false, not, ◌==◌, nat_eq, ◌||◌, if◌then◌else◌, List, [], ◌∷◌, drop, codes, filter, Option, Some, None}
 use Rattle.std.specs.List.{slice_split, join_with_byte, starts_with}
 use Rattle.std.specs.Str.{bytes_eq}
-use Rattle.cl_edit.specs.declared.version.Version.{Version}
-use Rattle.cl_edit.specs.declared.version.Version.TheVariants.{One, Two}
+use Rattle.cl_edit.specs.declared.version.Version.{Version, TheVariants.{One, Two}}
 
 -- ---- lines and words
 

@@ -1,10 +1,7 @@
 //! The model that an edit makes of a valid one, whether or not it is valid itself.
 ghost use Rattle.std.specs.Prelude.{◌≡◌, IfOk, OnOk};
-ghost use Rattle.cl_model.specs.Answers.{Answers};
-ghost use Rattle.cl_model.specs.Ranges.{IsInRange};
-ghost use Rattle.cl_edit.specs.Changing.{with_change, IsChangeOf};
-ghost use Rattle.cl_edit.specs.Edited.{edit_checks, with_edit};
-ghost use Rattle.cl_edit.specs.Ranges.{IsEditInRange};
+ghost use Rattle.cl_model.specs.{Answers.Answers, Ranges.IsInRange};
+ghost use Rattle.cl_edit.specs.{Changing.{with_change, IsChangeOf}, Edited.{edit_checks, with_edit}, Ranges.IsEditInRange};
 
 use crate::change::Change;
 use crate::edit::Edit;

@@ -1,10 +1,7 @@
 //! Whether an edit may be applied to a valid model, checked before any change.
 ghost use Rattle.std.specs.Prelude.{◌++◌, IfOk};
-ghost use Rattle.cl_model.specs.Answers.{Answers, Passes};
-ghost use Rattle.cl_model.specs.Validity.{IsValid, refusals_of};
-ghost use Rattle.cl_edit.specs.Changing.{with_change, IsChangeOf, MayBeMade, change_of};
-ghost use Rattle.cl_edit.specs.Edited.{edit_checks, with_edit};
-ghost use Rattle.cl_edit.specs.Ranges.{IsEditInRange};
+ghost use Rattle.cl_model.specs.{Answers.{Answers, Passes}, Validity.{IsValid, refusals_of}};
+ghost use Rattle.cl_edit.specs.{Changing.{with_change, IsChangeOf, MayBeMade, change_of}, Edited.{edit_checks, with_edit}, Ranges.IsEditInRange};
 
 use crate::change::Change;
 use crate::check_lists::{check_dropped_chain, check_dropped_task, check_new_chain};

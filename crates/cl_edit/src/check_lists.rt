@@ -3,15 +3,9 @@
 ghost use Rattle.std.specs.Prelude.{◌≡◌, ◌==◌, ◌<◌, ◌^◌, not, length, slice_get, All, Some};
 ghost use Rattle.std.specs.List.{list_any};
 ghost use Rattle.std.specs.Option.{option_copied};
-ghost use Rattle.cl_model.specs.Answers.{Answers, Passes};
-ghost use Rattle.cl_model.specs.ByNumber.{task_at};
-ghost use Rattle.cl_model.specs.Changes.{with_new_chain, without_chain, without_task};
-ghost use Rattle.cl_model.specs.Groups.{groups_at};
-ghost use Rattle.cl_model.specs.Named.{same_name, has_name, is_some_and, chain_names, runnable_named};
+ghost use Rattle.cl_model.specs.{Answers.{Answers, Passes}, ByNumber.task_at, Changes.{with_new_chain, without_chain, without_task}, Groups.groups_at, Named.{same_name, has_name, is_some_and, chain_names, runnable_named}, Ranges.IsChainInRange, Refusals.each, Validity.{IsValid, step_of}};
+ghost use Rattle.cl_model.specs.Validity.{misses_label, lengths_check, step_check, hop_check, chain_check, refusals_of};
 ghost use Rattle.cl_model.specs.Place as place;
-ghost use Rattle.cl_model.specs.Ranges.{IsChainInRange};
-ghost use Rattle.cl_model.specs.Refusals.{each};
-ghost use Rattle.cl_model.specs.Validity.{IsValid, step_of, misses_label, lengths_check, step_check, hop_check, chain_check, refusals_of};
 ghost use Rattle.cl_edit.specs.FewListChecks.{new_chain_name_check, new_chain_checks, kept_chain_check, kept_step_check, kept_steps_check};
 
 use cl_model::{

@@ -1,14 +1,9 @@
 //! Whether a task of a valid model may be moved to another core and priority, checked before any
 //! change.
 ghost use Rattle.std.specs.Prelude.{◌≡◌, ℕ, ◌<◌, ◌++◌, nat_lt, if◌then◌else◌, length};
-ghost use Rattle.cl_model.specs.Answers.{Answers, Passes};
-ghost use Rattle.cl_model.specs.Changes.{with_place};
+ghost use Rattle.cl_model.specs.{Answers.{Answers, Passes}, Changes.with_place, ValidTasks.deadline_checks, Validity.{IsValid, refusals_of}};
 ghost use Rattle.cl_model.specs.ValidTasks as keys;
-ghost use Rattle.cl_model.specs.ValidTasks.{deadline_checks};
-ghost use Rattle.cl_model.specs.Validity.{IsValid, refusals_of};
-ghost use Rattle.cl_edit.specs.declared.pace.Retiming.TheVariants.{Move};
-ghost use Rattle.cl_edit.specs.Inner.Paces.{with_retiming};
-ghost use Rattle.cl_edit.specs.Inner.Places.{place_checks, IsFirstBeyond, first_checks};
+ghost use Rattle.cl_edit.specs.{declared.pace.Retiming.TheVariants.Move, Inner.{Paces.with_retiming, Places.{place_checks, IsFirstBeyond, first_checks}}};
 
 use crate::check_new_task::task_key;
 use crate::pace::Retiming;

@@ -1,19 +1,10 @@
 //! Whether a task may be added to a valid model, by the few checks that it needs.
 ghost use Rattle.std.specs.Prelude.{◌≡◌, ◌+◌, ◌==◌, ◌&&◌, ◌<◌, ◌^◌, ◌++◌, ◌∷◌, [], map, length, nat_lt, nat_le, sum_by, OnOk, Some};
 ghost use Rattle.std.specs.List.{list_any};
-ghost use Rattle.cl_model.specs.Answers.{Answers, Passes};
-ghost use Rattle.cl_model.specs.Named.{same_name, has_name, is_some_and, task_names, kind_named, tasks_on, runnable_names};
+ghost use Rattle.cl_model.specs.{Answers.{Answers, Passes}, Named.{same_name, has_name, is_some_and, task_names, kind_named, tasks_on, runnable_names}, Ranges.IsTaskInRange, Refusals.{when, each}, Timing.{least_distance, greatest_jitter, deadline_under}, ValidNames.repeats};
+ghost use Rattle.cl_model.specs.{ValidTasks.{task_key, core_check, stimulus_check, priority_check, late_check, release_check, room_check, empty_check}, Validity.{IsValid, refusals_of}, Changes.with_new_task};
 ghost use Rattle.cl_model.specs.Place as places;
-ghost use Rattle.cl_model.specs.Ranges.{IsTaskInRange};
-ghost use Rattle.cl_model.specs.Refusals.{when, each};
-ghost use Rattle.cl_model.specs.Timing.{least_distance, greatest_jitter, deadline_under};
-ghost use Rattle.cl_model.specs.ValidNames.{repeats};
-ghost use Rattle.cl_model.specs.ValidTasks.{task_key, core_check, stimulus_check, priority_check, late_check, release_check, room_check, empty_check};
-ghost use Rattle.cl_model.specs.Validity.{IsValid, refusals_of};
-ghost use Rattle.cl_model.specs.Changes.{with_new_task};
-ghost use Rattle.cl_edit.specs.Edited.{all_names};
-ghost use Rattle.cl_edit.specs.FewListChecks.{new_task_name_check, new_runnables_check};
-ghost use Rattle.cl_edit.specs.Inner.NewTasks.{added_naming_checks, added_count_check, added_checks, all_checks};
+ghost use Rattle.cl_edit.specs.{Edited.all_names, FewListChecks.{new_task_name_check, new_runnables_check}, Inner.NewTasks.{added_naming_checks, added_count_check, added_checks, all_checks}};
 
 use crate::new_deadlines::check_deadlines;
 use crate::new_labels::check_labels;

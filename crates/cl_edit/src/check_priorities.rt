@@ -1,11 +1,7 @@
 //! Whether tasks of a valid model may get other priorities, checked before any change.
 ghost use Rattle.std.specs.Prelude.{◌≡◌, ◌++◌, IfOk, All};
-ghost use Rattle.cl_model.specs.Answers.{Passes};
-ghost use Rattle.cl_model.specs.Changes.{with_priorities};
-ghost use Rattle.cl_model.specs.Validity.{IsValid, refusals_of};
-ghost use Rattle.cl_edit.specs.Changing.{IsPriorityOf};
-ghost use Rattle.cl_edit.specs.Inner.Paces.{with_retiming, IsRetimingOf, priorities_of};
-ghost use Rattle.cl_edit.specs.Inner.Pairs.{pair_checks};
+ghost use Rattle.cl_model.specs.{Answers.Passes, Changes.with_priorities, Validity.{IsValid, refusals_of}};
+ghost use Rattle.cl_edit.specs.{Changing.IsPriorityOf, Inner.{Paces.{with_retiming, IsRetimingOf, priorities_of}, Pairs.pair_checks}};
 
 use crate::pace::Retiming;
 use crate::pairs::PairFault;

@@ -1,10 +1,6 @@
 //! Whether a requirement of a valid model may be set or added, by the one check that it needs.
 ghost use Rattle.std.specs.Prelude.{◌≡◌, ◌<◌, false, length};
-ghost use Rattle.cl_model.specs.Answers.{Answers, Passes};
-ghost use Rattle.cl_model.specs.ByNumber.{requirement_at};
-ghost use Rattle.cl_model.specs.Changes.{with_requirement, with_new_requirement};
-ghost use Rattle.cl_model.specs.Named.{has_name, requirement_names};
-ghost use Rattle.cl_model.specs.Validity.{IsValid, requirement_check, refusals_of};
+ghost use Rattle.cl_model.specs.{Answers.{Answers, Passes}, ByNumber.requirement_at, Changes.{with_requirement, with_new_requirement}, Named.{has_name, requirement_names}, Validity.{IsValid, requirement_check, refusals_of}};
 
 use crate::check_lists::has_chain;
 use cl_model::{Code, Key, ModelFault, Part, RequirementDef, ValidModel, refuse_unless};

@@ -1,13 +1,8 @@
 //! The few checks of changes that set something of a valid model, made before the change. Times are
 //! in ticks.
 ghost use Rattle.std.specs.Prelude.{◌<◌, ◌++◌, length};
-ghost use Rattle.cl_model.specs.Answers.{Answers, Passes};
-ghost use Rattle.cl_model.specs.Changes.{with_range, with_kind, with_deadline};
-ghost use Rattle.cl_model.specs.Groups.{IsStepOf};
-ghost use Rattle.cl_model.specs.ValidTasks.{deadline_checks};
-ghost use Rattle.cl_model.specs.Validity.{IsValid, refusals_of};
-ghost use Rattle.cl_edit.specs.FewChecks.{range_refusals, number_refusals};
-ghost use Rattle.cl_edit.specs.Inner.Paces.{all_limits_on};
+ghost use Rattle.cl_model.specs.{Answers.{Answers, Passes}, Changes.{with_range, with_kind, with_deadline}, Groups.IsStepOf, ValidTasks.deadline_checks, Validity.{IsValid, refusals_of}};
+ghost use Rattle.cl_edit.specs.{FewChecks.{range_refusals, number_refusals}, Inner.Paces.all_limits_on};
 
 use crate::pace::Retiming;
 use cl_model::{Code, Key, ModelFault, Part, Step, StimulusKind, ValidModel, refuse_when};

@@ -1,11 +1,7 @@
 //! A place in a list of edits, from which its lines are read.
 ghost use Rattle.std.specs.Prelude.{◌≡◌, ◌∷◌, None, MatchOption, IfOk};
 ghost use Rattle.cl_text.specs.LinesFault.{IfBadLine};
-ghost use Rattle.cl_edit.specs.declared.version.Version.TheVariants.{One, Two};
-ghost use Rattle.cl_edit.specs.Reading.{LacksTitle};
-ghost use Rattle.cl_edit.specs.Said.{lines};
-ghost use Rattle.cl_edit.specs.Inner.Left.{lines_left, said_in, said_left, HasNumbers, version_in, AreBehindTitle, IsTaken, IsNoneTaken, SaysThis, ReadsFirst, SaysNone};
-ghost use Rattle.cl_edit.specs.Inner.LineReads.{edit_in};
+ghost use Rattle.cl_edit.specs.{declared.version.Version.TheVariants.{One, Two}, Reading.LacksTitle, Said.lines, Inner.{Left.{lines_left, said_in, said_left, HasNumbers, version_in, AreBehindTitle, IsTaken, IsNoneTaken, SaysThis, ReadsFirst, SaysNone}, LineReads.edit_in}};
 
 use crate::edit_lines::ListedEdit;
 use crate::fault::{EditsFault, Unread};

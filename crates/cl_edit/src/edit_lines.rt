@@ -1,9 +1,7 @@
 //! Reading the edits of a text one at a time.
 ghost use Rattle.std.specs.Prelude.{◌≡◌, IfOk, OnErr};
 ghost use Rattle.cl_text.specs.LinesFault.{IfBadLine};
-ghost use Rattle.cl_edit.specs.Listed.{GivesNext};
-ghost use Rattle.cl_edit.specs.Reading.{AreEditsOf, IsBadEditLine};
-ghost use Rattle.cl_edit.specs.Inner.Counts.{counted_with};
+ghost use Rattle.cl_edit.specs.{Listed.GivesNext, Reading.{AreEditsOf, IsBadEditLine}, Inner.Counts.counted_with};
 
 use crate::cursor::Cursor;
 use crate::edit::Edit;

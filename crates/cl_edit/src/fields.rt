@@ -1,8 +1,6 @@
 //! Reading single words of an edit: names, numbers, keywords, and lists of names.
 ghost use Rattle.std.specs.Prelude.{◌≡◌, [], ◌∷◌, IfOk, IfErr};
-ghost use Rattle.cl_edit.specs.declared.fault.Unread.TheVariants.{Bad};
-ghost use Rattle.cl_edit.specs.Inner.Parts.{first_read, ReadsPart, ReadsUpTo};
-ghost use Rattle.cl_edit.specs.Inner.Fields.{name_in, number_in, time_in, flag_in, access_in, deadline_in, names_in, requirement_kind_in};
+ghost use Rattle.cl_edit.specs.{declared.fault.Unread.TheVariants.Bad, Inner.{Parts.{first_read, ReadsPart, ReadsUpTo}, Fields.{name_in, number_in, time_in, flag_in, access_in, deadline_in, names_in, requirement_kind_in}}};
 
 use crate::fault::Unread;
 use crate::words::Parts;

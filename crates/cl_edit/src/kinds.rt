@@ -1,9 +1,7 @@
 //! Kinds of stimuli with the numbers of an edit. Times are in ticks.
 ghost use Rattle.std.specs.Prelude.{◌≡◌, if◌then◌else◌, Some, None};
-ghost use Rattle.cl_model.specs.Kinds.{is_periodic};
-ghost use Rattle.cl_model.specs.Changes.{with_period, with_offset, with_jitter, with_distances, with_burst};
-ghost use Rattle.cl_edit.specs.Edited.{is_sporadic, is_burst, has_offset};
-ghost use Rattle.cl_edit.specs.Inner.Kinds.{sets, with_numbers};
+ghost use Rattle.cl_model.specs.{Kinds.is_periodic, Changes.{with_period, with_offset, with_jitter, with_distances, with_burst}};
+ghost use Rattle.cl_edit.specs.{Edited.{is_sporadic, is_burst, has_offset}, Inner.Kinds.{sets, with_numbers}};
 
 use crate::edit::Edit;
 use cl_model::StimulusKind;

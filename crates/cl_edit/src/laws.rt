@@ -1,14 +1,8 @@
 //! Each text has one answer: it lists edits, or it has a first bad line. An edit of a valid model
 //! makes a valid model.
 ghost use Rattle.std.specs.Prelude.{◌≡◌, ◌⊎◌, ℕ, List, Ok, All};
-ghost use Rattle.cl_model.specs.declared.model.SystemModel.{SystemModel};
-ghost use Rattle.cl_model.specs.AreNamed.{AreNamed};
-ghost use Rattle.cl_model.specs.Validity.{IsValid};
-ghost use Rattle.cl_edit.specs.declared.edit.Edit.{Edit};
-ghost use Rattle.cl_edit.specs.declared.edit_lines.ListedEdit.{ListedEdit};
-ghost use Rattle.cl_edit.specs.Edited.{edited};
-ghost use Rattle.cl_edit.specs.Ranges.{IsEditInRange};
-ghost use Rattle.cl_edit.specs.Reading.{AreEditsOf, IsBadEditLine, IsEditNamed, edits_of};
+ghost use Rattle.cl_model.specs.{declared.model.SystemModel.SystemModel, AreNamed.AreNamed, Validity.IsValid};
+ghost use Rattle.cl_edit.specs.{declared.{edit.Edit.Edit, edit_lines.ListedEdit.ListedEdit}, Edited.edited, Ranges.IsEditInRange, Reading.{AreEditsOf, IsBadEditLine, IsEditNamed, edits_of}};
 
 pub mod few_checks;
 pub mod lists;

@@ -2,8 +2,8 @@
 //! it.
 ghost use Rattle.std.specs.Prelude.{◌≡◌};
 ghost use Rattle.std.specs.Str.{bytes_eq};
-ghost use Rattle.cl_edit.specs.Inner.Parts.{ReadsPart, ReadsUpTo};
-ghost use Rattle.cl_edit.specs.Inner.LineReads.{range_in, whole_in, period_in, offset_in, jitter_in, distances_in, burst_in, deadline_line_in, swap_in, move_in, access_line_in, drop_task_in, drop_chain_in, chain_in, fields_in, requirement_in, drop_requirement_in, later_fields_in, fields_of, edit_in};
+ghost use Rattle.cl_edit.specs.Inner.{Parts.{ReadsPart, ReadsUpTo}, LineReads.{range_in, whole_in, period_in, offset_in, jitter_in, distances_in, burst_in, deadline_line_in, swap_in, move_in, access_line_in, drop_task_in, drop_chain_in, chain_in, fields_in, requirement_in}};
+ghost use Rattle.cl_edit.specs.Inner.LineReads.{drop_requirement_in, later_fields_in, fields_of, edit_in};
 
 use crate::edit::Edit;
 use crate::fault::Unread;

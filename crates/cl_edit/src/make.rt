@@ -1,11 +1,8 @@
 //! Changing a valid model in place.
 ghost use Rattle.std.specs.Prelude.{◌≡◌, IfOk};
-ghost use Rattle.cl_model.specs.Answers.{Gives};
-ghost use Rattle.cl_model.specs.Changes.{with_new_task, with_new_chain, with_priorities, with_requirement, with_new_requirement};
+ghost use Rattle.cl_model.specs.{Answers.Gives, Changes.{with_new_task, with_new_chain, with_priorities, with_requirement, with_new_requirement}};
 ghost use Rattle.cl_edit.specs.declared.change.Change.TheVariants as changes;
-ghost use Rattle.cl_edit.specs.Changing.{with_change, MayBeMade};
-ghost use Rattle.cl_edit.specs.Edited.{edited};
-ghost use Rattle.cl_edit.specs.Ranges.{IsEditInRange};
+ghost use Rattle.cl_edit.specs.{Changing.{with_change, MayBeMade}, Edited.edited, Ranges.IsEditInRange};
 
 use crate::change::Change;
 use crate::check::check_edit;

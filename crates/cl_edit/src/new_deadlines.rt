@@ -1,15 +1,8 @@
 //! The checks of deadlines for a new task: the deadlines of the tasks below it, and its own.
 ghost use Rattle.std.specs.Prelude.{◌≡◌, ◌<◌, ◌^◌, ◌++◌, length, slice_get, Some};
 ghost use Rattle.std.specs.List.{list_any};
-ghost use Rattle.cl_model.specs.Answers.{Answers};
-ghost use Rattle.cl_model.specs.Changes.{with_new_task};
-ghost use Rattle.cl_model.specs.Named.{is_some_and, kind_named};
-ghost use Rattle.cl_model.specs.Refusals.{each};
-ghost use Rattle.cl_model.specs.Timing.{deadline_under};
-ghost use Rattle.cl_model.specs.ValidTasks.{spans_too_many, deadline_check};
-ghost use Rattle.cl_model.specs.Validity.{IsValid};
-ghost use Rattle.cl_edit.specs.FewListChecks.{below_new_check};
-ghost use Rattle.cl_edit.specs.Inner.NewTasks.{outpaced_by, is_task_below};
+ghost use Rattle.cl_model.specs.{Answers.Answers, Changes.with_new_task, Named.{is_some_and, kind_named}, Refusals.each, Timing.deadline_under, ValidTasks.{spans_too_many, deadline_check}, Validity.IsValid};
+ghost use Rattle.cl_edit.specs.{FewListChecks.below_new_check, Inner.NewTasks.{outpaced_by, is_task_below}};
 
 use crate::check_new_task::task_key;
 use cl_model::{Code, Key, ModelFault, StimulusKind, TaskDef, ValidModel, refuse_when};

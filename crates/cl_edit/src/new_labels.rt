@@ -1,9 +1,6 @@
 //! The checks of the labels that a new task reads and writes. They look up only these labels.
 ghost use Rattle.std.specs.Prelude.{[], ◌∷◌, ◌++◌, map, IfOk, OnOk};
-ghost use Rattle.cl_model.specs.Answers.{Answers};
-ghost use Rattle.cl_model.specs.Named.{label_names, labels_written, all_runnables};
-ghost use Rattle.cl_model.specs.Ranges.{IsTaskInRange};
-ghost use Rattle.cl_model.specs.ValidTasks.{body_checks};
+ghost use Rattle.cl_model.specs.{Answers.Answers, Named.{label_names, labels_written, all_runnables}, Ranges.IsTaskInRange, ValidTasks.body_checks};
 ghost use Rattle.cl_edit.specs.Inner.NewTasks.{labels_of, AgreeOn, AreAlike};
 
 use cl_model::{LabelDef, ModelFault, Name, NameSet, Place, RunnableDef, TaskDef, ValidModel};

@@ -1,9 +1,7 @@
 //! A change of when tasks run, and the checks of deadlines after it, made before the change. Times
 //! are in ticks.
 ghost use Rattle.std.specs.Prelude.{◌≡◌, ◌<◌, ◌++◌, length};
-ghost use Rattle.cl_model.specs.Answers.{Answers, Passes};
-ghost use Rattle.cl_model.specs.ValidTasks.{deadline_checks};
-ghost use Rattle.cl_model.specs.Validity.{IsValid};
+ghost use Rattle.cl_model.specs.{Answers.{Answers, Passes}, ValidTasks.deadline_checks, Validity.IsValid};
 ghost use Rattle.cl_edit.specs.Inner.Paces.{with_retiming, IsRetimingOf, is_on, limit_checks, limits_on, all_limits_on, priority_after, kind_after, given_after, pace_after};
 
 use crate::check_new_task::task_key;

@@ -1,12 +1,8 @@
 //! The search for the first task that is refused beside another one of its core after a change of
 //! when tasks run, made before the change. Times are in ticks.
 ghost use Rattle.std.specs.Prelude.{◌≡◌, ℕ, ◌<◌, true, length, All};
-ghost use Rattle.cl_model.specs.Answers.{Passes};
-ghost use Rattle.cl_model.specs.ByNumber.{core_of};
-ghost use Rattle.cl_model.specs.Validity.{IsValid};
-ghost use Rattle.cl_edit.specs.Changing.{IsPriorityOf};
-ghost use Rattle.cl_edit.specs.Inner.Paces.{with_retiming, IsRetimingOf, is_on, core_after, HasOthers};
-ghost use Rattle.cl_edit.specs.Inner.Pairs.{is_refused_beside, refusal_at, pair_checks, least_of, noted, IsAtMost, IsRefused, HasSeen, IsFirstRefused};
+ghost use Rattle.cl_model.specs.{Answers.Passes, ByNumber.core_of, Validity.IsValid};
+ghost use Rattle.cl_edit.specs.{Changing.IsPriorityOf, Inner.{Paces.{with_retiming, IsRetimingOf, is_on, core_after, HasOthers}, Pairs.{is_refused_beside, refusal_at, pair_checks, least_of, noted, IsAtMost, IsRefused, HasSeen, IsFirstRefused}}};
 
 use crate::check_new_task::task_key;
 use crate::pace::{Pace, Retiming, is_on};

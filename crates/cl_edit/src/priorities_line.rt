@@ -1,8 +1,7 @@
 //! Reading the line of priorities: tasks and the priorities that they get, up to the end of the
 //! line.
 ghost use Rattle.std.specs.Prelude.{◌≡◌, [], IfOk};
-ghost use Rattle.cl_edit.specs.Inner.Parts.{ReadsPart, ReadsUpTo};
-ghost use Rattle.cl_edit.specs.Inner.LineReads.{priority_in, priority_list_in, priorities_in};
+ghost use Rattle.cl_edit.specs.Inner.{Parts.{ReadsPart, ReadsUpTo}, LineReads.{priority_in, priority_list_in, priorities_in}};
 
 use crate::edit::{Edit, NamedPriority};
 use crate::fault::Unread;

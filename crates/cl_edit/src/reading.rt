@@ -1,8 +1,7 @@
 //! Reading a text as a list of edits.
 ghost use Rattle.std.specs.Prelude.{IfOk, List};
 ghost use Rattle.cl_text.specs.LinesFault.{IfBadLine, ReadsThis};
-ghost use Rattle.cl_edit.specs.declared.edit_lines.ListedEdit.{ListedEdit};
-ghost use Rattle.cl_edit.specs.Reading.{AreEditsOf, IsBadEditLine};
+ghost use Rattle.cl_edit.specs.{declared.edit_lines.ListedEdit.ListedEdit, Reading.{AreEditsOf, IsBadEditLine}};
 
 use crate::edit_lines::{EditLines, ListedEdit};
 use crate::fault::EditsFault;

@@ -2,17 +2,9 @@
 //! in ticks.
 ghost use Rattle.std.specs.Prelude.{◌≡◌, ◌++◌, ◌||◌, nat_lt, length, map, unwrap_or};
 ghost use Rattle.std.specs.List.{flat_map};
-ghost use Rattle.cl_model.specs.Answers.{Answers};
-ghost use Rattle.cl_model.specs.Groups.{step_named};
-ghost use Rattle.cl_model.specs.ByNumber.{requirement_named};
-ghost use Rattle.cl_model.specs.Named.{has_name, task_names, chain_names, requirement_names, kind_named};
-ghost use Rattle.cl_model.specs.Place.{top, section_place};
-ghost use Rattle.cl_model.specs.Refusals.{unless};
+ghost use Rattle.cl_model.specs.{Answers.Answers, Groups.step_named, ByNumber.requirement_named, Named.{has_name, task_names, chain_names, requirement_names, kind_named}, Place.{top, section_place}, Refusals.unless};
 ghost use Rattle.cl_edit.specs.declared.change.Change.TheVariants as changes;
-ghost use Rattle.cl_edit.specs.declared.edit.NamedPriority.{NamedPriority};
-ghost use Rattle.cl_edit.specs.Changing.{task_number, chain_number, kind_change, by_number, exchanged, requirement_change, change_of};
-ghost use Rattle.cl_edit.specs.Edited.{found, all_names, kind_found, edit_checks};
-ghost use Rattle.cl_edit.specs.Inner.Kinds.{sets, with_numbers};
+ghost use Rattle.cl_edit.specs.{declared.edit.NamedPriority.NamedPriority, Changing.{task_number, chain_number, kind_change, by_number, exchanged, requirement_change, change_of}, Edited.{found, all_names, kind_found, edit_checks}, Inner.Kinds.{sets, with_numbers}};
 
 use crate::change::Change;
 use crate::edit::{Edit, NamedPriority};

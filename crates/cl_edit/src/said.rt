@@ -1,7 +1,6 @@
 //! Lines of a list of edits: their plain form, and which of them say something.
 ghost use Rattle.std.specs.Prelude.{◌≡◌, IfOk, OnOk};
-ghost use Rattle.cl_edit.specs.Said.{without_return, without_mark, is_blank, plain, says};
-ghost use Rattle.cl_edit.specs.Inner.Words.{with_word};
+ghost use Rattle.cl_edit.specs.{Said.{without_return, without_mark, is_blank, plain, says}, Inner.Words.with_word};
 
 use cl_time::NoMemory;
 use std::alloc::Global;

@@ -1,8 +1,7 @@
 //! Reading the line of a new task: its properties, and then its runnables up to the end of the
 //! line.
 ghost use Rattle.std.specs.Prelude.{◌≡◌, [], IfOk};
-ghost use Rattle.cl_edit.specs.Inner.Parts.{ReadsPart, ReadsUpTo};
-ghost use Rattle.cl_edit.specs.Inner.LineReads.{runnable_in, runnables_in, task_head_in, task_in};
+ghost use Rattle.cl_edit.specs.Inner.{Parts.{ReadsPart, ReadsUpTo}, LineReads.{runnable_in, runnables_in, task_head_in, task_in}};
 
 use crate::edit::Edit;
 use crate::fault::Unread;

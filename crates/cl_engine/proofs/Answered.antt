@@ -1,27 +1,11 @@
 -- What the words come to, why, and what is left, by what was opened.
-use Rattle.std.proofs.Common.{◌≡◌, ◌≢◌, ◌⊎◌, ℕ, ◌≤◌, inl, inr, List, [], Option, Some, None, refl, sym, ap, ◌∙◌, subst, arith}
-use Rattle.cl_io.specs.Counts.{Rose}
-use Rattle.cl_engine.specs.declared.files.Files.{Files}
-use Rattle.cl_engine.specs.declared.given.Given.{Given}
-use Rattle.cl_engine.specs.declared.opening.Opened.{Opened}
+use Rattle.std.proofs.Common.{◌≡◌, ℕ, inr, List, Option, Some, None, sym, subst}
+use Rattle.cl_engine.specs.{declared.{files.Files.Files, given.Given.Given, opening.Opened.Opened, outcome.Outcome.Outcome}, Calls.{ShelfCall, SinkCall}, Content.{content_of, Means, Fits}, Fetched.{Unasked, EachFile, FileGave, TellsFiles, WaitsForModel}, Files.{File, files_named}}
+use Rattle.cl_engine.specs.{Files.files_limited, Inner.{Leaving.{LeavesRest, Cause, IsCaused}, Opened.{AreOpenedAs, HaveOpened, LeavesOthers}}, SoundCall.IsSoundCall, Language.{Language, files_asked, files_of, limited_asked}, Outcome.{words_refused, MayEnd, Opens}, Run.{ComesAs, ComesTo}}
+use Rattle.cl_engine.specs.Steps.{AreFewSteps}
 use Rattle.cl_engine.specs.declared.opening.Opened.TheVariants as opened
-use Rattle.cl_engine.specs.declared.outcome.Outcome.{Outcome}
-use Rattle.cl_engine.specs.declared.status.TheConstants.{NO_MEMORY}
-use Rattle.cl_engine.specs.Calls.{ShelfCall, SinkCall}
-use Rattle.cl_engine.specs.Content.{Content, content_of, Means, Fits}
-use Rattle.cl_engine.specs.Fetched.{Unasked, EachFile, FileGave, TellsFiles, WaitsForModel}
-use Rattle.cl_engine.specs.Files.{File, files_named, files_limited, word}
-use Rattle.cl_engine.specs.Inner.Leaving.{LeavesRest, Cause, IsCaused}
-use Rattle.cl_engine.specs.Inner.Opened.{AreOpenedAs, HaveOpened, LeavesOthers}
-use Rattle.cl_engine.specs.SoundCall.{IsSoundCall}
-use Rattle.cl_engine.specs.Language.{Language, files_asked, files_of, limited_asked}
-use Rattle.cl_engine.specs.Outcome.{words_refused, MayEnd, Opens}
-use Rattle.cl_engine.specs.Run.{ComesAs, ComesTo, IsOutOfMemory}
-use Rattle.cl_engine.specs.Steps.{TakesOfContent, AreFewSteps}
-use Rattle.cl_engine.proofs.Comings.{stops_cause, ended_cause}
-use Rattle.cl_engine.proofs.Endings.{Carried, counted_rose, words_refused_by, no_command_ends, read_fault_ends, long_file_ends, model_refused_ends, write_fault_cuts, no_memory_ends, other_status_ends, unfailed_ends}
-use Rattle.cl_engine.proofs.Openings.{gives_open, gives_fit, stops_open}
-use Rattle.cl_engine.proofs.Tellings.{gives_mean, told_ends, told_keeps}
+use Rattle.cl_engine.proofs.{Comings.{stops_cause, ended_cause}, Endings.{Carried, counted_rose, words_refused_by, no_command_ends, read_fault_ends, long_file_ends, model_refused_ends, write_fault_cuts, no_memory_ends, other_status_ends, unfailed_ends}, Openings.{gives_open, gives_fit}}
+use Rattle.cl_engine.proofs.{Openings.stops_open, Tellings.{gives_mean, told_ends, told_keeps}}
 
 module _ {C : Type 0} (language : Language C) (words : List (List ℕ)) (shelf : ShelfCall) where
   -- ---- words that are no command
@@ -31,22 +15,7 @@ module _ {C : Type 0} (language : Language C) (words : List (List ℕ)) (shelf :
     refused_comes found is = subst (λ (c : Option C). ComesAs language c words shelf found) (sym none)
         (record { gave = λ _. Unasked; files = tt; waits = λ _. tt; follows = is })
 
-    pub refused_caused : (found : Outcome) → found ≡ words_refused → IsCaused language words shelf found
-    refused_caused found is = inl (none, is)
-
   -- ---- nothing is touched
-
-  few_of_none : (command : Option C) (contents : ℕ → List ℕ) (steps : ℕ) → AreFewSteps language command contents steps steps
-  few_of_none None contents steps = omega arith
-  few_of_none (Some asked) contents steps = inl (omega arith)
-
-  pub rest_untouched : shelf.held_after ≡ shelf.held → shelf.faults_after ≡ shelf.faults → shelf.longest_after ≡ shelf.longest → (steps : ℕ) → LeavesRest language words shelf steps steps
-  rest_untouched held faults longest steps = record {
-    same = λ name. ap (λ f. f name) held;
-    other_faults = λ name beside. ap (λ f. f name) faults;
-    other_longest = λ name beside. ap (λ f. f name) longest;
-    few_steps = λ contents tells. few_of_none (language.spelled words) contents steps;
-  }
 
   -- ---- a command
 
@@ -108,10 +77,6 @@ module _ {C : Type 0} (language : Language C) (words : List (List ℕ)) (shelf :
         few_steps = few;
       }
 
-      -- without a step
-      pub stopped_left : steps_after ≡ steps → LeavesRest language words shelf steps steps_after
-      stopped_left none = rest_left (λ contents tells. subst (λ n. AreFewSteps language (language.spelled words) contents steps n) (sym none) (few_of_none (language.spelled words) contents steps))
-
   -- ---- what the call keeps
 
   module _ {S K : Type 0} (before after : S) (sink : SinkCall K) (steps steps_after status : ℕ) (leaves : LeavesRest language words shelf steps steps_after)
@@ -139,29 +104,3 @@ module _ {C : Type 0} (language : Language C) (words : List (List ℕ)) (shelf :
       told_files = λ contents tells. inr (told_ends words shelf contents language sink found status comes carried tells);
       told = λ none unfailed contents tells. inr (told_keeps words shelf contents language sink found status comes carried tells none unfailed);
     }
-
-    -- where memory ran out
-    pub kept_without_memory : status ≡ NO_MEMORY → sink.after ≡ sink.before → IsSoundCall language words shelf before after sink steps steps_after status
-    kept_without_memory is uncalled =
-        let out : IsOutOfMemory sink status = record { fault_status = is; uncalled = uncalled } in
-        record {
-          ends = inl out;
-          held = leaves.same;
-          other_faults = leaves.other_faults;
-          other_longest = leaves.other_longest;
-          unasked = unasked;
-          few_steps = leaves.few_steps;
-          words_refused = λ other. absurd (omega (arith, is, other));
-          no_command = λ none. inr (inr is);
-          read_fault = λ other. absurd (omega (arith, is, other));
-          long_file = λ other. absurd (omega (arith, is, other));
-          model_refused = λ other. absurd (omega (arith, is, other));
-          write_fault = λ other. absurd (omega (arith, is, other));
-          failed_once = λ other. absurd (omega (arith, is, other));
-          failed_last = λ other. absurd (omega (arith, is, other));
-          unfailed = λ other. ap sink.faults uncalled;
-          out_of_memory = λ _. uncalled;
-          other_status = λ other. omega (arith, is, other);
-          told_files = λ contents tells. inl out;
-          told = λ none unfailed contents tells. inl out;
-        }

@@ -1,23 +1,13 @@
 -- Why an outcome is what it is.
-use Rattle.std.proofs.Common.{◌≡◌, ◌⊎◌, ℕ, ◌+◌, ◌<◌, ◌≤◌, inl, inr, List, [], ◌∷◌, length, Option, Some, None, Result, Ok, Err, refl, ap, subst, arith}
+use Rattle.std.proofs.Common.{◌≡◌, ℕ, ◌+◌, ◌<◌, ◌≤◌, inl, inr, List, [], ◌∷◌, length, Option, Some, None, Result, Ok, Err, refl, ap, subst, arith}
 use Rattle.std.specs.Prelude.{Contains}
 use Rattle.std.proofs.lemmas.List.Elements.{Contains-append_left}
 use Rattle.cl_io.specs.Shelf.{Held, Untold, Absent, Content as Told, MayBe, MayHave}
-use Rattle.cl_model.specs.declared.model.SystemModel.{SystemModel}
-use Rattle.cl_model.specs.declared.refusal.Refusal.{Refusal}
-use Rattle.cl_model.specs.Reading.{model_of}
-use Rattle.cl_model.specs.Validity.{refusal_of}
-use Rattle.cl_engine.specs.declared.files.Files.{Files}
+use Rattle.cl_model.specs.{declared.{model.SystemModel.SystemModel, refusal.Refusal.Refusal}, Reading.model_of, Validity.refusal_of}
+use Rattle.cl_engine.specs.{declared.{files.{Files.Files, TheConstants.FILE_LIMIT}, outcome.Outcome.Outcome}, Calls.ShelfCall, Content.{Content, Nothing, Bytes as Whole, Model, ModelAnd}, Fetched.{Fetched, Unasked, Bytes, Fault, TooLong, MayGive, EachFile, FileGave, IsAccepted, NoneAfter}}
+use Rattle.cl_engine.specs.{Fetched.WaitsForModel, Files.{File, model_file, second_file, files_named, files_limited, word}, Inner.{Leaving.{Cause, OfFault, OfLength, OfRefusal, OfContent}, Opened.{NoNext, GivesContent}}, Outcome.{IsOverlong, MayEnd, IsOfRefusal, ValidatesEither}}
+use Rattle.cl_engine.specs.Outcome.{ReadsEither, ReadsTo, OpensTo, OpensSecond, OpensBoth, Opens}
 use Rattle.cl_engine.specs.declared.files.Files.TheVariants as files
-use Rattle.cl_engine.specs.declared.files.TheConstants.{FILE_LIMIT}
-use Rattle.cl_engine.specs.declared.outcome.Outcome.{Outcome}
-use Rattle.cl_engine.specs.Calls.{ShelfCall}
-use Rattle.cl_engine.specs.Content.{Content, Nothing, Bytes as Whole, Model, ModelAnd}
-use Rattle.cl_engine.specs.Fetched.{Fetched, Unasked, Bytes, Fault, TooLong, MayGive, EachFile, FileGave, IsAccepted, NoneAfter, WaitsForModel}
-use Rattle.cl_engine.specs.Files.{File, model_file, second_file, files_named, files_limited, word}
-use Rattle.cl_engine.specs.Inner.Leaving.{Cause, OfFault, OfLength, OfRefusal, OfContent}
-use Rattle.cl_engine.specs.Inner.Opened.{NoNext, GivesContent}
-use Rattle.cl_engine.specs.Outcome.{IsOverlong, MayEnd, IsOfRefusal, ValidatesEither, ReadsEither, ReadsTo, OpensTo, OpensSecond, OpensBoth, Opens}
 use Rattle.cl_engine.proofs.Openings.{none_of_refused, none_of_unread, not_accepted}
 
 -- what may be the bytes may have as many

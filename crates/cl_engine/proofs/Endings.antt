@@ -1,15 +1,8 @@
 -- When each status comes.
-use Rattle.std.proofs.Common.{◌≡◌, ◌≢◌, ◌⊎◌, ℕ, ◌+◌, ◌-◌, ◌^◌, ◌<◌, min, inl, inr, List, Option, Some, None, refl, ap, subst, arith}
+use Rattle.std.proofs.Common.{◌≡◌, ◌≢◌, ◌⊎◌, ℕ, inl, inr, List, Option, Some, None, ap, subst, arith}
 use Rattle.cl_io.specs.Counts.{Rose, counted}
-use Rattle.cl_engine.specs.declared.outcome.Outcome.{Outcome}
-use Rattle.cl_engine.specs.declared.status.TheConstants.{WORDS_REFUSED, READ_FAULT, LONG_FILE, MODEL_REFUSED, WRITE_FAULT, NO_MEMORY, ARGUMENT_NOT_TEXT}
-use Rattle.cl_engine.specs.Calls.{ShelfCall, SinkCall}
-use Rattle.cl_engine.specs.Fetched.{FileRose, FileTooLong, NoneAfter}
-use Rattle.cl_engine.specs.Files.{File}
-use Rattle.cl_engine.specs.Inner.Leaving.{Cause, OfFault, OfLength, OfRefusal, OfContent, IsCaused}
-use Rattle.cl_engine.specs.Language.{Language, files_of, limited_of, IsOfContent}
-use Rattle.cl_engine.specs.Outcome.{words_refused, read_fault, long_file}
-use Rattle.cl_engine.specs.Run.{ComesAs, ComesTo, IsWhole, IsCutShort, WritesOfFile}
+use Rattle.cl_engine.specs.{declared.{outcome.Outcome.Outcome, status.TheConstants.{WORDS_REFUSED, READ_FAULT, LONG_FILE, MODEL_REFUSED, WRITE_FAULT, NO_MEMORY, ARGUMENT_NOT_TEXT}}, Calls.{ShelfCall, SinkCall}, Fetched.{FileRose, FileTooLong, NoneAfter}, Files.File, Inner.Leaving.Cause}
+use Rattle.cl_engine.specs.{Inner.Leaving.{OfFault, OfLength, OfRefusal, OfContent, IsCaused}, Language.{Language, files_of, limited_of, IsOfContent}, Outcome.{words_refused, read_fault, long_file}, Run.{ComesAs, ComesTo, IsWhole, IsCutShort, WritesOfFile}}
 
 -- how an outcome was carried out
 abbrev pub Carried : {K : Type 0} (sink : SinkCall K) (found : Outcome) (status : ℕ) → Type 0

@@ -1,48 +1,20 @@
 -- What the opening of each kind of files gives, and leaves.
-use Rattle.std.proofs.Common.{◌≡◌, ◌≢◌, ℕ, inl, inr, List, [], ◌∷◌, Vec, cond, nat_eq, refl, sym, ap, ◌∙◌, subst, arith}
-use Rattle.std.specs.List.{AllByRecursion}
+use Rattle.std.proofs.Common.{◌≡◌, ℕ, List, [], ◌∷◌, Vec, cond, nat_eq, sym, ap, subst, arith}
 use Rattle.std.specs.declared.alloc.Global.{Global}
-use Rattle.cl_model.specs.declared.model.SystemModel.{SystemModel}
-use Rattle.cl_model.specs.declared.refusal.Refusal.{Refusal}
-use Rattle.cl_model.specs.Reading.{model_of}
-use Rattle.cl_engine.specs.declared.files.Files.{Files}
+use Rattle.cl_model.specs.{declared.{model.SystemModel.SystemModel, refusal.Refusal.Refusal}, Reading.model_of}
+use Rattle.cl_engine.specs.{declared.{files.{Files.Files, TheConstants.FILE_LIMIT}, outcome.Outcome.Outcome, opening.{FileFetch.FileFetch, OpenedModel.OpenedModel, Opened.Opened}}, Calls.{ShelfCall, FetchesAlone}, Content.{Content, Bytes as Whole}, Fetched.{Fetched, Unasked, MayGive}}
+use Rattle.cl_engine.specs.{Fetched.{EachFile, FileGave, NoneAfter, WaitsForModel}, Files.{File, model_file, second_file, word}, Inner.Opened.{NoNext, given, IsOpenedAs, IsSecondAs, HasOpened, HasOpenedSecond, GivesModel, GivesContent, AreOpenedAs, HaveOpened, LeavesOthers}}
+use Rattle.cl_engine.specs.Outcome.{read_fault, long_file, model_refused, IsOfRefusal, ReadsEither, ReadsTo, OpensTo}
 use Rattle.cl_engine.specs.declared.files.Files.TheVariants as files
-use Rattle.cl_engine.specs.declared.files.TheConstants.{FILE_LIMIT}
 use Rattle.cl_engine.specs.declared.given.Given.TheVariants as held
-use Rattle.cl_engine.specs.declared.outcome.Outcome.{Outcome}
-use Rattle.cl_engine.specs.declared.opening.FileFetch.{FileFetch}
 use Rattle.cl_engine.specs.declared.opening.FileFetch.TheVariants as fetch
-use Rattle.cl_engine.specs.declared.opening.OpenedModel.{OpenedModel}
 use Rattle.cl_engine.specs.declared.opening.OpenedModel.TheVariants as model_opened
-use Rattle.cl_engine.specs.declared.opening.Opened.{Opened}
 use Rattle.cl_engine.specs.declared.opening.Opened.TheVariants as opened
-use Rattle.cl_engine.specs.Calls.{ShelfCall, FetchesAlone}
-use Rattle.cl_engine.specs.Content.{Content, Bytes as Whole, Model, ModelAnd, content_of, MeansModel}
-use Rattle.cl_engine.specs.Fetched.{Fetched, Unasked, Bytes, MayGive, EachFile, FileGave, NoneAfter, WaitsForModel}
-use Rattle.cl_engine.specs.Files.{File, model_file, second_file, files_named, word}
-use Rattle.cl_engine.specs.Inner.Opened.{NoNext, given, IsOpenedAs, IsSecondAs, HasOpened, HasOpenedSecond, GivesModel, GivesContent, AreOpenedAs, HaveOpened, LeavesOthers}
-use Rattle.cl_engine.specs.Outcome.{read_fault, long_file, model_refused, IsOfRefusal, ReadsEither, ReadsTo, OpensTo, Opens}
-use Rattle.cl_engine.proofs.Openings.{gives_model, gives_accepted, gives_none, model_refuses, model_stops, next_model}
-use Rattle.cl_engine.proofs.TwoCalls.{Follows, through, LeavesTwo, fetches_two, first_may, second_may}
+use Rattle.cl_engine.proofs.{Openings.{gives_model, gives_accepted, gives_none, model_refuses, model_stops, next_model}, TwoCalls.{Follows, through, fetches_two, first_may, second_may}}
 
 -- ---- what is left
 
 module _ (words : List (List ℕ)) where
-  -- no fetch
-  pub none_fetched : (shelf : ShelfCall) → shelf.held_after ≡ shelf.held → shelf.faults_after ≡ shelf.faults → shelf.longest_after ≡ shelf.longest
-      → LeavesOthers [] words shelf
-  none_fetched shelf held faults longest = record {
-    same = λ name. ap (λ f. f name) held;
-    others = λ name beside. record { faults = ap (λ f. f name) faults; longest = ap (λ f. f name) longest };
-  }
-
-  -- one
-  pub one_fetched : (shelf : ShelfCall) → FetchesAlone shelf (word words 1) → LeavesOthers (model_file ∷ []) words shelf
-  one_fetched shelf alone = record {
-    same = alone.same;
-    others = λ name beside. record { faults = alone.faults.others name beside.0; longest = alone.longest.others name beside.0 };
-  }
-
   -- one of two
   pub first_fetched : (shelf : ShelfCall) (limit : ℕ) → FetchesAlone shelf (word words 1) → LeavesOthers (model_file ∷ second_file limit ∷ []) words shelf
   first_fetched shelf limit alone = record {

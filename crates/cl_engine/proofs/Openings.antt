@@ -1,22 +1,12 @@
 -- The opening of files, whatever comes next.
 use Rattle.std.proofs.Common.{◌≡◌, ℕ, List, Vec, Option, Some, None, Result, Ok, Err, refl, sym, ap, ◌∙◌, subst}
 use Rattle.std.specs.declared.alloc.Global.{Global}
-use Rattle.cl_model.specs.declared.model.SystemModel.{SystemModel}
-use Rattle.cl_model.specs.declared.refusal.Refusal.{Refusal}
-use Rattle.cl_model.specs.Reading.{model_of}
-use Rattle.cl_model.specs.Validity.{refusals_of, refusal_of, IsValid}
-use Rattle.cl_model.proofs.ReadModels.{read_in_range}
-use Rattle.cl_model.proofs.Refused.{none_refused}
-use Rattle.cl_engine.specs.declared.files.Files.{Files}
+use Rattle.cl_model.specs.{declared.{model.SystemModel.SystemModel, refusal.Refusal.Refusal}, Reading.model_of, Validity.{refusals_of, refusal_of, IsValid}}
+use Rattle.cl_model.proofs.{ReadModels.read_in_range, Refused.none_refused}
+use Rattle.cl_engine.specs.{declared.{files.Files.Files, outcome.Outcome.Outcome}, Content.{Content, Nothing, Bytes as Whole, Model, ModelAnd, MeansModel, MeansNone, Fits}, Fetched.{Fetched, Unasked, Bytes, Fault, TooLong, IsAccepted}, Files.{File, model_file, second_file}}
+use Rattle.cl_engine.specs.{Inner.Opened.{NoNext, IsReadAs, IsOpenedAs, GivesModel, GivesNone, GivesContent}, Outcome.{IsOfRefusal, ValidatesEither, ReadsEither, ReadsTo, OpensTo, OpensSecond, OpensBoth, Opens}}
 use Rattle.cl_engine.specs.declared.files.Files.TheVariants as files
-use Rattle.cl_engine.specs.declared.outcome.Outcome.{Outcome}
-use Rattle.cl_engine.specs.declared.opening.OpenedModel.{OpenedModel}
 use Rattle.cl_engine.specs.declared.opening.OpenedModel.TheVariants as model_opened
-use Rattle.cl_engine.specs.Content.{Content, Nothing, Bytes as Whole, Model, ModelAnd, MeansModel, MeansNone, Fits}
-use Rattle.cl_engine.specs.Fetched.{Fetched, Unasked, Bytes, Fault, TooLong, IsAccepted}
-use Rattle.cl_engine.specs.Files.{File, model_file, second_file}
-use Rattle.cl_engine.specs.Inner.Opened.{NoNext, IsReadAs, IsOpenedAs, GivesModel, GivesNone, GivesContent}
-use Rattle.cl_engine.specs.Outcome.{IsOfRefusal, ValidatesEither, ReadsEither, ReadsTo, OpensTo, OpensSecond, OpensBoth, Opens}
 
 -- a model that is read and not refused is valid
 pub valid_read : (bytes : List ℕ) (model : SystemModel) → MeansModel bytes model → IsValid model

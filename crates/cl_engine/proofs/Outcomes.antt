@@ -2,22 +2,12 @@
 -- what the files hold.
 use Rattle.std.proofs.Common.{◌≡◌, ℕ, ◌≤◌, inl, inr, Bool, true, false, List, [], ◌∷◌, Option, Some, None, Result, Ok, Err, refl, sym, ap, ◌∙◌, subst, arith, length}
 use Rattle.std.specs.Prelude.{nat_lt, if◌then◌else◌}
-use Rattle.cl_model.specs.declared.model.SystemModel.{SystemModel}
-use Rattle.cl_model.specs.declared.refusal.Refusal.{Refusal}
-use Rattle.cl_model.specs.AreNamed.{AreNamed}
-use Rattle.cl_model.specs.Reading.{model_of}
-use Rattle.cl_model.specs.Validity.{refusal_of, IsValid}
+use Rattle.cl_model.specs.{declared.{model.SystemModel.SystemModel, refusal.Refusal.Refusal}, AreNamed.AreNamed, Reading.model_of, Validity.{refusal_of, IsValid}}
 use Rattle.cl_model.proofs.ReadModels.{read_named}
-use Rattle.cl_engine.specs.declared.files.Files.{Files}
+use Rattle.cl_engine.specs.{declared.{files.{Files.Files, TheConstants.FILE_LIMIT}, outcome.Outcome.Outcome, status.TheConstants.{WRITE_FAULT, NO_MEMORY}}, Content.{Content, Nothing, Bytes as Whole, Model, ModelAnd, Fits, MeansModel, MeansNone, Means}, Fetched.{Fetched, Unasked, Bytes}}
+use Rattle.cl_engine.specs.{Fetched.{Fault, TooLong, EachFile, WasFetched, told_fetch}, Files.{File, model_file, second_file, files_named}, Language.IsOfContent, Outcome.{read_fault, long_file, model_refused, IsOfRefusal, ValidatesEither, ValidatesTo, ReadsEither, ReadsTo, OpensTo}}
+use Rattle.cl_engine.specs.Outcome.{OpensSecond, OpensBoth, Opens}
 use Rattle.cl_engine.specs.declared.files.Files.TheVariants as files
-use Rattle.cl_engine.specs.declared.files.TheConstants.{FILE_LIMIT}
-use Rattle.cl_engine.specs.declared.outcome.Outcome.{Outcome}
-use Rattle.cl_engine.specs.declared.status.TheConstants.{WRITE_FAULT, NO_MEMORY}
-use Rattle.cl_engine.specs.Content.{Content, Nothing, Bytes as Whole, Model, ModelAnd, Fits, MeansModel, MeansNone, Means}
-use Rattle.cl_engine.specs.Fetched.{Fetched, Unasked, Bytes, Fault, TooLong, EachFile, WasFetched, told_fetch}
-use Rattle.cl_engine.specs.Files.{File, model_file, second_file, files_named}
-use Rattle.cl_engine.specs.Language.{IsOfContent}
-use Rattle.cl_engine.specs.Outcome.{read_fault, long_file, model_refused, IsOfRefusal, ValidatesEither, ValidatesTo, ReadsEither, ReadsTo, OpensTo, OpensSecond, OpensBoth, Opens}
 use Rattle.cl_engine.proofs.Openings.{valid_read, none_of_refused, none_of_unread}
 
 -- the model of a file that was opened is valid, and its names are names

@@ -4,26 +4,13 @@ use Rattle.std.specs.Prelude.{Contains, nat_lt, if◌then◌else◌}
 use Rattle.std.specs.List.{AllByRecursion}
 use Rattle.std.proofs.lemmas.Bool.Decides.{nat_tests}
 use Rattle.std.proofs.lemmas.List.Elements.{All-contains, All-from_recursion}
-use Rattle.cl_io.specs.Counts.{Rose}
-use Rattle.cl_io.specs.Sink.{appended}
-use Rattle.cl_io.specs.Shelf.{Held, Content as Told, MayBe, MayHave}
-use Rattle.cl_model.specs.declared.model.SystemModel.{SystemModel}
-use Rattle.cl_model.specs.declared.refusal.Refusal.{Refusal}
-use Rattle.cl_model.specs.Reading.{model_of}
-use Rattle.cl_model.specs.Validity.{refusal_of}
-use Rattle.cl_engine.specs.declared.files.Files.{Files}
+use Rattle.cl_io.specs.{Counts.Rose, Sink.appended, Shelf.{Held, Content as Told, MayBe, MayHave}}
+use Rattle.cl_model.specs.{declared.{model.SystemModel.SystemModel, refusal.Refusal.Refusal}, Reading.model_of, Validity.refusal_of}
+use Rattle.cl_engine.specs.{declared.{files.Files.Files, outcome.Outcome.Outcome}, Calls.{ShelfCall, SinkCall}, Content.{Content, Nothing, Bytes as Whole, Model, ModelAnd, MeansModel, Means}, Fetched.{Fetched, Unasked, Bytes, Fault, TooLong, EachFile, SomeFile, FileRose, FileGave}}
+use Rattle.cl_engine.specs.{Fetched.{MayGive, TellsFiles, NoneRose, told_fetch}, Files.{File, model_file, second_file, files_named, word}, Inner.Opened.{GivesModel, GivesContent}, Language.{Language, files_asked, files_of, IsOfContent}, Outcome.{IsOfRefusal, ReadsEither, ReadsTo}}
+use Rattle.cl_engine.specs.{Outcome.{ValidatesEither, OpensTo, OpensFile, OpensSecond, OpensBoth, Opens, HasOutcome}, Run.{ComesAs, ComesTo, ComesToTold, IsFileFault, IsWhole, IsCarriedOut}}
 use Rattle.cl_engine.specs.declared.files.Files.TheVariants as files
-use Rattle.cl_engine.specs.declared.outcome.Outcome.{Outcome}
-use Rattle.cl_engine.specs.Calls.{ShelfCall, SinkCall}
-use Rattle.cl_engine.specs.Content.{Content, Nothing, Bytes as Whole, Model, ModelAnd, MeansModel, Means}
-use Rattle.cl_engine.specs.Fetched.{Fetched, Unasked, Bytes, Fault, TooLong, EachFile, SomeFile, FileRose, FileGave, MayGive, TellsFiles, NoneRose, told_fetch}
-use Rattle.cl_engine.specs.Files.{File, model_file, second_file, files_named, word}
-use Rattle.cl_engine.specs.Inner.Opened.{GivesModel, GivesContent}
-use Rattle.cl_engine.specs.Language.{Language, files_asked, files_of, IsOfContent}
-use Rattle.cl_engine.specs.Outcome.{IsOfRefusal, ReadsEither, ReadsTo, ValidatesEither, OpensTo, OpensFile, OpensSecond, OpensBoth, Opens, HasOutcome}
-use Rattle.cl_engine.specs.Run.{ComesAs, ComesTo, ComesToTold, IsFileFault, IsWhole, IsCarriedOut}
-use Rattle.cl_engine.proofs.Endings.{Carried, counted_rose}
-use Rattle.cl_engine.proofs.Outcomes.{no_fault_of_file, no_write_fault}
+use Rattle.cl_engine.proofs.{Endings.{Carried, counted_rose}, Outcomes.{no_fault_of_file, no_write_fault}}
 
 pub told_bytes : (limit : ℕ) (content : List ℕ) → length content ≤ limit → (if nat_lt limit (length content) then TooLong else Bytes content) ≡ Bytes content
 told_bytes limit content within = grind (arith, nat_tests)

@@ -3,11 +3,8 @@ use Rattle.std.proofs.Common.{◌≡◌, ◌≢◌, ◌⊎◌, ℕ, ◌+◌, ◌
 use Rattle.std.specs.Str.{bytes_eq}
 use Rattle.std.proofs.lemmas.Bool.{cases_lt}
 use Rattle.std.proofs.lemmas.Slice.Eq.{bytes_eq-Decides}
-use Rattle.cl_io.specs.Counts.{Rose, RisesAlone}
-use Rattle.cl_io.specs.Names.{SameAtEach}
-use Rattle.cl_io.specs.Shelf.{Held, MayBe, MayHave}
-use Rattle.cl_engine.specs.Calls.{ShelfCall, StaysAt, FetchesAlone}
-use Rattle.cl_engine.specs.Fetched.{Fetched, Unasked, Bytes, Fault, TooLong, MayGive}
+use Rattle.cl_io.specs.{Counts.{Rose, RisesAlone}, Names.SameAtEach, Shelf.{Held, MayBe, MayHave}}
+use Rattle.cl_engine.specs.{Calls.{ShelfCall, StaysAt, FetchesAlone}, Fetched.{Fetched, Unasked, Bytes, Fault, TooLong, MayGive}}
 
 -- what the shelf holds is as it was, and so are both numbers of every name but these two
 pub record LeavesTwo (shelf : ShelfCall) (one other : List ℕ) : Type 0 where

@@ -1,8 +1,6 @@
 -- What a call finds and leaves of its shelf and of its sink.
 use Rattle.std.specs.Prelude.{◌≡◌, ℕ, Bool, List, Option}
-use Rattle.cl_io.specs.Counts.{Rose, RisesAlone}
-use Rattle.cl_io.specs.Names.{SameAtEach}
-use Rattle.cl_io.specs.Shelf.{Held}
+use Rattle.cl_io.specs.{Counts.{Rose, RisesAlone}, Names.SameAtEach, Shelf.Held}
 
 -- ---- the shelf
 

@@ -1,11 +1,8 @@
 -- What the files of a command hold, once they are open.
 use Rattle.std.specs.Prelude.{◌≡◌, ℕ, List, None, Ok}
-use Rattle.cl_model.specs.declared.model.SystemModel.{SystemModel}
-use Rattle.cl_model.specs.Reading.{model_of}
-use Rattle.cl_model.specs.Validity.{refusal_of}
-use Rattle.cl_engine.specs.declared.files.Files.{Files}
+use Rattle.cl_model.specs.{declared.model.SystemModel.SystemModel, Reading.model_of, Validity.refusal_of}
+use Rattle.cl_engine.specs.declared.{files.Files.Files, given.Given.Given}
 use Rattle.cl_engine.specs.declared.files.Files.TheVariants as files
-use Rattle.cl_engine.specs.declared.given.Given.{Given}
 use Rattle.cl_engine.specs.declared.given.Given.TheVariants as given
 
 -- what the files of a command hold

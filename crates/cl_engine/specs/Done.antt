@@ -1,7 +1,6 @@
 -- Outcomes by their status and by what holds of their text.
 use Rattle.std.specs.Prelude.{◌≡◌, ℕ, List}
-use Rattle.cl_engine.specs.declared.outcome.Outcome.{Outcome}
-use Rattle.cl_engine.specs.declared.status.TheConstants.{DONE}
+use Rattle.cl_engine.specs.declared.{outcome.Outcome.Outcome, status.TheConstants.DONE}
 
 -- this status, and a text of which this holds
 pub record HasStatusAndText (status : ℕ) (IsText : List ℕ → Type 0) (found : Outcome) : Type 0 where

@@ -4,10 +4,8 @@ use Rattle.std.specs.declared.alloc.Global.{Global}
 use Rattle.std.specs.IoError.{error_kind}
 use Rattle.std.specs.declared.io.Error.{Error}
 use Rattle.std.specs.declared.io.ErrorKind.TheVariants.{OutOfMemory}
-use Rattle.cl_io.specs.Counts.{counted}
-use Rattle.cl_io.specs.declared.fault.FetchFault.{FetchFault}
+use Rattle.cl_io.specs.{Counts.counted, declared.fault.{FetchFault.FetchFault, SinkFault.SinkFault}}
 use Rattle.cl_io.specs.declared.fault.FetchFault.TheVariants as fetch_fault
-use Rattle.cl_io.specs.declared.fault.SinkFault.{SinkFault}
 use Rattle.cl_io.specs.declared.fault.SinkFault.TheVariants as sink_fault
 use Rattle.cl_engine.specs.declared.status.TheConstants.{NO_MEMORY, ARGUMENT_NOT_TEXT}
 

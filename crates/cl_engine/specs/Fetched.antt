@@ -1,11 +1,9 @@
 -- What the fetches of a command's files gave.
-use Rattle.std.specs.Prelude.{◌≡◌, ◌≢◌, ◌⊎◌, ℕ, ◌+◌, ◌<◌, ◌≤◌, List, length, if◌then◌else◌, nat_lt, None, Ok}
+use Rattle.std.specs.Prelude.{◌≡◌, ◌≢◌, ◌⊎◌, ℕ, ◌+◌, ◌<◌, ◌≤◌, List, length, if◌then◌else◌, nat_lt}
 use Rattle.std.specs.List.{AllByRecursion, Contains}
 use Rattle.cl_io.specs.Shelf.{Held, Content, MayBe, MayHave}
 use Rattle.cl_model.specs.declared.model.SystemModel.{SystemModel}
-use Rattle.cl_engine.specs.Calls.{ShelfCall, RoseAt, StaysAt}
-use Rattle.cl_engine.specs.Content.{MeansModel}
-use Rattle.cl_engine.specs.Files.{File, model_file, word}
+use Rattle.cl_engine.specs.{Calls.{ShelfCall, RoseAt, StaysAt}, Content.MeansModel, Files.{File, model_file, word}}
 
 -- what the fetch of a file gave
 pub data Fetched : Type 0 where

@@ -1,8 +1,7 @@
 -- The files that a command names behind its verb.
 use Rattle.std.specs.Prelude.{ℕ, List, [], ◌∷◌, slice_index_or}
-use Rattle.cl_engine.specs.declared.files.Files.{Files}
+use Rattle.cl_engine.specs.declared.files.{Files.Files, TheConstants.FILE_LIMIT}
 use Rattle.cl_engine.specs.declared.files.Files.TheVariants as files
-use Rattle.cl_engine.specs.declared.files.TheConstants.{FILE_LIMIT}
 
 -- a file of a command: the place of its word, which is its number in every line about it, and the most bytes that it
 -- may have

@@ -1,10 +1,6 @@
 -- The commands of a program: which words spell one, which files it needs, what it comes to, and the steps that it takes.
 use Rattle.std.specs.Prelude.{◌≡◌, ◌⊎◌, ℕ, ◌≤◌, ◌<◌, List, [], length, Option, Some, None}
-use Rattle.cl_engine.specs.declared.files.Files.{Files}
-use Rattle.cl_engine.specs.declared.outcome.Outcome.{Outcome}
-use Rattle.cl_engine.specs.declared.status.TheConstants.{DONE}
-use Rattle.cl_engine.specs.Content.{Content}
-use Rattle.cl_engine.specs.Files.{File, files_named, files_limited, file_count}
+use Rattle.cl_engine.specs.{declared.{files.Files.Files, outcome.Outcome.Outcome, status.TheConstants.DONE}, Content.Content, Files.{File, files_named, files_limited, file_count}}
 
 -- all that is to be known of the commands
 pub record Language (C : Type 0) : Type 1 where

@@ -1,20 +1,10 @@
 -- The outcome of a command: its status and its text.
 use Rattle.std.specs.Prelude.{◌≡◌, ◌⊎◌, ℕ, ◌<◌, List, length, ◌++◌, codes, decimal, Option, Some, None, Result, Ok, Err}
 use Rattle.cl_text.specs.Line.{line}
-use Rattle.cl_model.specs.declared.model.SystemModel.{SystemModel}
-use Rattle.cl_model.specs.declared.refusal.Refusal.{Refusal}
-use Rattle.cl_model.specs.Reading.{model_of}
-use Rattle.cl_model.specs.Refusal.{refusal_text}
-use Rattle.cl_model.specs.Validity.{refusal_of}
-use Rattle.cl_engine.specs.declared.files.Files.{Files}
+use Rattle.cl_model.specs.{declared.{model.SystemModel.SystemModel, refusal.Refusal.Refusal}, Reading.model_of, Refusal.refusal_text, Validity.refusal_of}
+use Rattle.cl_engine.specs.{declared.{files.{Files.Files, TheConstants.FILE_LIMIT}, outcome.Outcome.Outcome, status.TheConstants.{WORDS_REFUSED, READ_FAULT, LONG_FILE, MODEL_REFUSED}}, Content.{Content, Nothing, Bytes as Whole, Model, ModelAnd}, Fetched.{Fetched, Unasked, Bytes, Fault}}
+use Rattle.cl_engine.specs.{Fetched.TooLong, Files.{File, model_file, second_file}, Language.{Language, IsOfContent}}
 use Rattle.cl_engine.specs.declared.files.Files.TheVariants as files
-use Rattle.cl_engine.specs.declared.files.TheConstants.{FILE_LIMIT}
-use Rattle.cl_engine.specs.declared.outcome.Outcome.{Outcome}
-use Rattle.cl_engine.specs.declared.status.TheConstants.{WORDS_REFUSED, READ_FAULT, LONG_FILE, MODEL_REFUSED}
-use Rattle.cl_engine.specs.Content.{Content, Nothing, Bytes as Whole, Model, ModelAnd}
-use Rattle.cl_engine.specs.Fetched.{Fetched, Unasked, Bytes, Fault, TooLong}
-use Rattle.cl_engine.specs.Files.{File, model_file, second_file}
-use Rattle.cl_engine.specs.Language.{Language, IsOfContent}
 
 -- ---- outcomes that any command may come to
 

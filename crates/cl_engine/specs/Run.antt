@@ -1,15 +1,8 @@
 -- How a call of the top function ends.
 use Rattle.std.specs.Prelude.{◌≡◌, ◌⊎◌, ℕ, ◌<◌, List, [], length, take, Option, IsTrue}
-use Rattle.cl_io.specs.Counts.{counted}
-use Rattle.cl_io.specs.Shelf.{Held}
-use Rattle.cl_io.specs.Sink.{appended}
-use Rattle.cl_engine.specs.declared.outcome.Outcome.{Outcome}
-use Rattle.cl_engine.specs.declared.status.TheConstants.{WRITE_FAULT, NO_MEMORY}
-use Rattle.cl_engine.specs.Calls.{ShelfCall, SinkCall}
-use Rattle.cl_engine.specs.Fetched.{Fetched, EachFile, SomeFile, FileGave, FileRose, TellsFiles, told_fetch, NoneAfter, WaitsForModel}
-use Rattle.cl_engine.specs.Files.{File}
-use Rattle.cl_engine.specs.Language.{Language, files_asked, files_of}
-use Rattle.cl_engine.specs.Outcome.{read_fault, long_file, HasOutcome}
+use Rattle.cl_io.specs.{Counts.counted, Shelf.Held, Sink.appended}
+use Rattle.cl_engine.specs.{declared.{outcome.Outcome.Outcome, status.TheConstants.{WRITE_FAULT, NO_MEMORY}}, Calls.{ShelfCall, SinkCall}, Fetched.{Fetched, EachFile, SomeFile, FileGave, FileRose, TellsFiles, told_fetch, NoneAfter, WaitsForModel}, Files.File, Language.Language}
+use Rattle.cl_engine.specs.{Language.{files_asked, files_of}, Outcome.{read_fault, long_file, HasOutcome}}
 
 -- ---- where an outcome comes from
 

@@ -1,14 +1,8 @@
 -- What a call of the top function keeps, whatever the words, the files and the output are.
 use Rattle.std.specs.Prelude.{◌≡◌, ◌≢◌, ◌⊎◌, ℕ, List, None, IsTrue}
-use Rattle.cl_io.specs.Counts.{Rose, counted}
-use Rattle.cl_io.specs.Names.{SameAtEach}
-use Rattle.cl_engine.specs.declared.status.TheConstants.{WORDS_REFUSED, READ_FAULT, LONG_FILE, MODEL_REFUSED, WRITE_FAULT, NO_MEMORY, ARGUMENT_NOT_TEXT}
-use Rattle.cl_engine.specs.Calls.{ShelfCall, SinkCall}
-use Rattle.cl_engine.specs.Fetched.{FileRose, FileTooLong, NoneRose, StaysBeside, TellsFiles, NoneAfter}
-use Rattle.cl_engine.specs.Language.{Language, files_of, limited_of}
-use Rattle.cl_engine.specs.Outcome.{read_fault, long_file}
-use Rattle.cl_engine.specs.Run.{ComesTo, ComesToTold, Ends, KeepsToTold, WritesOfFile}
-use Rattle.cl_engine.specs.Steps.{AreFewSteps}
+use Rattle.cl_io.specs.{Counts.{Rose, counted}, Names.SameAtEach}
+use Rattle.cl_engine.specs.{declared.status.TheConstants.{WORDS_REFUSED, READ_FAULT, LONG_FILE, MODEL_REFUSED, WRITE_FAULT, NO_MEMORY, ARGUMENT_NOT_TEXT}, Calls.{ShelfCall, SinkCall}, Fetched.{FileRose, FileTooLong, NoneRose, StaysBeside, TellsFiles, NoneAfter}, Language.Language}
+use Rattle.cl_engine.specs.{Language.{files_of, limited_of}, Outcome.{read_fault, long_file}, Run.{ComesTo, ComesToTold, Ends, KeepsToTold, WritesOfFile}, Steps.AreFewSteps}
 
 -- What is kept where the call made of the shelf what `shelf` says, and of the sink what `sink` says, with the shelf and the
 -- steps before and after it, and answered this status.

@@ -1,7 +1,6 @@
 -- How many analysing steps a command takes.
 use Rattle.std.specs.Prelude.{◌⊎◌, ℕ, ◌≤◌, List, Option, Some, None}
-use Rattle.cl_engine.specs.Content.{Content, Means}
-use Rattle.cl_engine.specs.Language.{Language}
+use Rattle.cl_engine.specs.{Content.{Content, Means}, Language.Language}
 
 -- the files hold this, and the command takes the steps of it
 pub record TakesOfContent {C : Type 0} (language : Language C) (asked : C) (contents : ℕ → List ℕ) (before after : ℕ) : Type 0 where

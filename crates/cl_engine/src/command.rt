@@ -1,7 +1,5 @@
 ghost use Rattle.std.specs.Prelude.{◌≡◌, IfSome, IfOk};
-ghost use Rattle.cl_engine.specs.Content.{content_of, Fits};
-ghost use Rattle.cl_engine.specs.Language.{Language, IsSpelled, HasFileWords};
-ghost use Rattle.cl_engine.specs.Outcome.{MayEnd};
+ghost use Rattle.cl_engine.specs.{Content.{content_of, Fits}, Language.{Language, IsSpelled, HasFileWords}, Outcome.MayEnd};
 
 use crate::{Files, Given, Outcome};
 use cl_io::Words;

@@ -1,14 +1,9 @@
 //! The opening of a command's files: fetches them, reads and validates a model file, and fetches a
 //! second file only beside a valid model.
 ghost use Rattle.std.specs.Prelude.{◌≡◌, ◌<◌, ◌≤◌, length, IfOk};
-ghost use Rattle.cl_model.specs.Ranges.{IsInRange};
-ghost use Rattle.cl_model.specs.Reading.{model_of};
-ghost use Rattle.cl_model.specs.Validity.{refusal_of};
+ghost use Rattle.cl_model.specs.{Ranges.IsInRange, Reading.model_of, Validity.refusal_of};
 ghost use Rattle.cl_engine.specs.declared.files.Files.TheVariants as files;
-ghost use Rattle.cl_engine.specs.Calls.{shelf_call, FetchesAlone};
-ghost use Rattle.cl_engine.specs.Fetched.{Bytes, MayGive};
-ghost use Rattle.cl_engine.specs.Files.{word, files_named, file_count};
-ghost use Rattle.cl_engine.specs.Inner.Opened.{given, IsOpenedAs, IsValidatedAs, HasOpened, HasOpenedSecond, HaveOpened, LeavesOthers};
+ghost use Rattle.cl_engine.specs.{Calls.{shelf_call, FetchesAlone}, Fetched.{Bytes, MayGive}, Files.{word, files_named, file_count}, Inner.Opened.{given, IsOpenedAs, IsValidatedAs, HasOpened, HasOpenedSecond, HaveOpened, LeavesOthers}};
 
 use crate::words::word_at;
 use crate::{FILE_LIMIT, Files, Given, Outcome};

@@ -1,7 +1,6 @@
 ghost use Rattle.std.specs.Prelude.{◌≡◌, ◌∷◌, [], ◌++◌, decimal, IfOk};
 ghost use Rattle.cl_text.specs.Line.{line};
-ghost use Rattle.cl_engine.specs.declared.status.TheConstants.{DONE};
-ghost use Rattle.cl_engine.specs.Outcome.{words_refused, read_fault, long_file, model_refused};
+ghost use Rattle.cl_engine.specs.{declared.status.TheConstants.DONE, Outcome.{words_refused, read_fault, long_file, model_refused}};
 
 use crate::status;
 use cl_model::Refusal;

@@ -1,9 +1,5 @@
 ghost use Rattle.std.specs.Prelude.{◌≡◌, ◌⊎◌, None, Some, IfOk};
-ghost use Rattle.cl_engine.specs.Calls.{shelf_call, sink_call};
-ghost use Rattle.cl_engine.specs.Inner.Leaving.{LeavesRest, IsCaused};
-ghost use Rattle.cl_engine.specs.SoundCall.{IsSoundCall};
-ghost use Rattle.cl_engine.specs.Language.{HasFileWords};
-ghost use Rattle.cl_engine.specs.Run.{ComesTo, IsWhole, IsCutShort};
+ghost use Rattle.cl_engine.specs.{Calls.{shelf_call, sink_call}, Inner.Leaving.{LeavesRest, IsCaused}, SoundCall.IsSoundCall, Language.HasFileWords, Run.{ComesTo, IsWhole, IsCutShort}};
 
 use crate::opening::{Opened, open};
 use crate::{Command, Outcome, status};

@@ -2,10 +2,7 @@
 //! output of a real machine.
 ghost use Rattle.std.specs.Prelude.{◌≡◌, ◌<◌, map, drop, string_bytes, IfOk, IfErr, OnErr, MatchResult};
 ghost use Rattle.std.specs.Vec.Iter.{into_iter_items};
-ghost use Rattle.cl_engine.specs.Calls.{shelf_call, sink_call};
-ghost use Rattle.cl_engine.specs.Edges.{IsStatusOfError};
-ghost use Rattle.cl_engine.specs.SoundCall.{IsSoundCall};
-ghost use Rattle.cl_engine.specs.Run.{MayEndWith};
+ghost use Rattle.cl_engine.specs.{Calls.{shelf_call, sink_call}, Edges.IsStatusOfError, SoundCall.IsSoundCall, Run.MayEndWith};
 
 use crate::status::{ARGUMENT_NOT_TEXT, NO_MEMORY};
 use crate::{Command, FileShelf, OutSink, run};

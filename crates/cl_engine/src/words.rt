@@ -1,7 +1,6 @@
 //! The words of a command: the word at an index, and the numbers that words spell.
 ghost use Rattle.std.specs.Prelude.{◌≡◌, ◌<◌, ◌≤◌, drop, length};
-ghost use Rattle.cl_engine.specs.Files.{word};
-ghost use Rattle.cl_engine.specs.Words.{number_within, two_numbers};
+ghost use Rattle.cl_engine.specs.{Files.word, Words.{number_within, two_numbers}};
 
 use cl_io::Words;
 use cl_text::read_decimal;

@@ -2,8 +2,7 @@
 use Rattle.std.proofs.Common.{◌≡◌, ℕ, suc, ◌+◌, ◌-◌, ◌*◌, ◌/◌, ◌%◌, ◌<◌, ◌≤◌, List, length, ap, inl, inr, arith}
 use Rattle.std.proofs.lemmas.Bool.{cases_lt}
 use Rattle.std.proofs.Math.Nat.{mul-le-mul_right}
-use Rattle.cl_exact.specs.declared.beat.Beat.{Beat}
-use Rattle.cl_exact.specs.Inner.Beats.{AreBeats, beat_in, read_at, write_at, first_reader, last_writer}
+use Rattle.cl_exact.specs.{declared.beat.Beat.Beat, Inner.Beats.{AreBeats, beat_in, read_at, write_at, first_reader, last_writer}}
 
 -- a number over a divisor, rounded up
 ceil_enough : (n d : ℕ) → 1 ≤ d → n ≤ (n + (d - 1)) / d * d

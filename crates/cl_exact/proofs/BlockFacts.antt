@@ -1,10 +1,7 @@
 -- The moments of many job chains at once, hop after hop.
 use Rattle.std.proofs.Common.{◌≡◌, ℕ, zero, suc, ◌+◌, ◌-◌, ◌*◌, ◌<◌, ◌≤◌, List, length, slice_index, ap, subst, ◌∙◌, arith}
-use Rattle.cl_exact.specs.declared.beat.Beat.{Beat}
-use Rattle.cl_exact.specs.Inner.Beats.{IsBeat, AreBeats, beat_in, read_at, first_reader, hop_to}
-use Rattle.cl_exact.specs.Inner.Blocks.{LATEST, AreRising, AreBefore, IsReadUpTo, IsEarlyBlock, AreWrites}
-use Rattle.cl_exact.proofs.BeatFacts.{reads_rise, reader_is, reader_least, reader_rises, reads_rise_back}
-use Rattle.cl_exact.proofs.ForwardJobs.{writes_rise, writes_soon}
+use Rattle.cl_exact.specs.{declared.beat.Beat.Beat, Inner.{Beats.{IsBeat, AreBeats, beat_in, read_at, first_reader, hop_to}, Blocks.{LATEST, AreRising, AreBefore, IsReadUpTo, IsEarlyBlock, AreWrites}}}
+use Rattle.cl_exact.proofs.{BeatFacts.{reads_rise, reader_is, reader_least, reader_rises, reads_rise_back}, ForwardJobs.{writes_rise, writes_soon}}
 
 -- where a read is the first up to some moment, and it isn't before a moment, it is the first for that one
 pub read_stays : (beat : Beat) → IsBeat beat → (read moment : ℕ) → IsReadUpTo beat read moment → moment ≤ read

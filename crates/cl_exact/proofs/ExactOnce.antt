@@ -2,15 +2,9 @@
 use Rattle.std.proofs.Common.{◌≡◌, ℕ, List, sym, ap, ◌∙◌, arith}
 use Rattle.std.proofs.lemmas.Nat.Gcd.{dvd_antisymm}
 use Rattle.cl_model.specs.declared.group.Group.{Group}
-use Rattle.cl_runs.specs.TaskTiming.{System}
-use Rattle.cl_runs.specs.Chains.{JobChain, chain_length, first_job, last_job}
-use Rattle.cl_runs.specs.RunChains.{ideal_moments}
-use Rattle.cl_runs.specs.Measured.{IsLongest}
-use Rattle.cl_runs.proofs.OrderedMoments.{ideal_unique}
-use Rattle.cl_runs.proofs.ChainsUnique.{forward_once, age_once, reduced_once}
-use Rattle.cl_exact.specs.declared.witness.Witness.{Witness}
-use Rattle.cl_exact.specs.Hyperperiod.{IsHyperperiod, IsWithinLimit, IsPastLimit}
-use Rattle.cl_exact.specs.ExactLengths.{IsSteadyForward, IsSteadyAge, IsSteadyReduced, chain_of, IsExact, Witnesses, AreExactLengths}
+use Rattle.cl_runs.specs.{TaskTiming.System, Chains.{JobChain, chain_length, first_job, last_job}, RunChains.ideal_moments, Measured.IsLongest}
+use Rattle.cl_runs.proofs.{OrderedMoments.ideal_unique, ChainsUnique.{forward_once, age_once, reduced_once}}
+use Rattle.cl_exact.specs.{declared.witness.Witness.Witness, Hyperperiod.{IsHyperperiod, IsWithinLimit, IsPastLimit}, ExactLengths.{IsSteadyForward, IsSteadyAge, IsSteadyReduced, chain_of, IsExact, Witnesses, AreExactLengths}}
 
 -- where chains of a kind are determined by a job, there is one longest of the least job
 longest_once : (IsChain : JobChain → Type 0) (job_of : JobChain → ℕ) (one other : JobChain)

@@ -5,14 +5,9 @@ use Rattle.std.proofs.Math.ListN.{get_or-append}
 use Rattle.std.proofs.Math.Seq.{get_or-append_seam}
 use Rattle.std.proofs.lemmas.Bool.{cases_lt}
 use Rattle.std.proofs.lemmas.List.Sums.{sum_by-take-le}
-use Rattle.cl_exact.specs.declared.beat.Beat.{Beat}
-use Rattle.cl_exact.specs.declared.scan.Greatest.{Greatest}
-use Rattle.cl_exact.specs.Inner.Beats.{AreBeats, beat_in, read_at, forward_job, last_writer, reaction_of}
-use Rattle.cl_exact.specs.Inner.Scans.{IsGreatestOf, NoneHas, IsFirstWith}
-use Rattle.cl_exact.specs.Inner.Walks.{IsForwardWalk, IsLastWritingJob, IsBackwardWalk, start_of, start_up_of, IsLatestSecond}
-use Rattle.cl_exact.specs.Inner.Found.{last_beat}
-use Rattle.cl_exact.proofs.ScanFacts.{greatest_stays, greatest_rises, none_more}
-use Rattle.cl_exact.proofs.WalkFacts.{last_writer_is, late_enough, late_back, latest_more}
+use Rattle.cl_exact.specs.{declared.{beat.Beat.Beat, scan.Greatest.Greatest}, Inner.{Beats.{AreBeats, beat_in, read_at, forward_job, last_writer, reaction_of}, Scans.{IsGreatestOf, NoneHas, IsFirstWith}, Walks.{IsForwardWalk, IsLastWritingJob, IsBackwardWalk, start_of, start_up_of}}}
+use Rattle.cl_exact.specs.Inner.{Walks.IsLatestSecond, Found.last_beat}
+use Rattle.cl_exact.proofs.{ScanFacts.{greatest_stays, greatest_rises, none_more}, WalkFacts.{last_writer_is, late_enough, late_back, latest_more}}
 
 -- ---- lists
 

@@ -1,17 +1,10 @@
 -- The ideal moments of a chain are those of its beats, and so are its job chains.
 use Rattle.std.proofs.Common.{◌≡◌, ℕ, zero, suc, ◌+◌, ◌-◌, ◌*◌, ◌<◌, ◌≤◌, List, length, sym, ap, subst, ◌∙◌, arith}
 use Rattle.std.specs.Prelude.{slice_index}
-use Rattle.cl_model.specs.declared.group.Group.{Group}
-use Rattle.cl_model.specs.Groups.{group_at}
-use Rattle.cl_runs.specs.TaskTiming.{System}
-use Rattle.cl_runs.specs.Chains.{IsEarliestReader, IsLatestWriter, JobChain, chain_length, first_job, last_job, IsForwardChain, AreBackwardLinks, IsAgeChain, IsReducedChain}
-use Rattle.cl_runs.specs.RunChains.{ArrivesAt, ideal_moments}
-use Rattle.cl_exact.specs.declared.beat.Beat.{Beat}
-use Rattle.cl_exact.specs.Inner.Beats.{AreBeatsOf, beat_in, read_at, write_at, first_reader, forward_job, forward_start, forward_end, reaction_of}
-use Rattle.cl_exact.specs.Inner.Walks.{IsForwardWalk, IsLastWritingJob, IsBackwardWalk}
-use Rattle.cl_exact.specs.Inner.Found.{last_beat, IsComplete, age_of}
-use Rattle.cl_exact.proofs.BeatFacts.{reader_is, reader_after, reader_least}
-use Rattle.cl_exact.proofs.ReactionAge.{reads_before_last}
+use Rattle.cl_model.specs.{declared.group.Group.Group, Groups.group_at}
+use Rattle.cl_runs.specs.{TaskTiming.System, Chains.{IsEarliestReader, IsLatestWriter, JobChain, chain_length, first_job, last_job, IsForwardChain, AreBackwardLinks, IsAgeChain, IsReducedChain}, RunChains.{ArrivesAt, ideal_moments}}
+use Rattle.cl_exact.specs.{declared.beat.Beat.Beat, Inner.{Beats.{AreBeatsOf, beat_in, read_at, write_at, first_reader, forward_job, forward_start, forward_end, reaction_of}, Walks.{IsForwardWalk, IsLastWritingJob, IsBackwardWalk}, Found.{last_beat, IsComplete, age_of}}}
+use Rattle.cl_exact.proofs.{BeatFacts.{reader_is, reader_after, reader_least}, ReactionAge.reads_before_last}
 
 module _ (system : System) (groups : List Group) (beats : List Beat) (of : AreBeatsOf system groups beats) where
   abbrev reads : (place job tick : ℕ) → Type 0

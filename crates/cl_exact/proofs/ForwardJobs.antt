@@ -1,8 +1,7 @@
 -- The jobs of a forward chain: they rise with the first job, and each reads at or after the one before it, and soon
 -- after it.
-use Rattle.std.proofs.Common.{◌≡◌, ℕ, zero, suc, ◌+◌, ◌-◌, ◌*◌, ◌<◌, ◌≤◌, List, length, arith}
-use Rattle.cl_exact.specs.declared.beat.Beat.{Beat}
-use Rattle.cl_exact.specs.Inner.Beats.{AreBeats, beat_in, read_at, forward_job, forward_write, forward_start, forward_end, reaction_of}
+use Rattle.std.proofs.Common.{ℕ, zero, suc, ◌+◌, ◌-◌, ◌*◌, ◌<◌, ◌≤◌, List, length, arith}
+use Rattle.cl_exact.specs.{declared.beat.Beat.Beat, Inner.Beats.{AreBeats, beat_in, read_at, forward_job, forward_write, forward_start, forward_end, reaction_of}}
 use Rattle.cl_exact.proofs.BeatFacts.{reads_rise, reader_after, reader_rises, reader_soon, some_period}
 
 -- how much later than its write a hop's next write lies at most
@@ -52,10 +51,6 @@ module _ (beats : List Beat) (are : AreBeats beats) where
         reads_rise (beat_in beats 0) (m - 1) m (omega arith),
         reads_after m (length beats - 1) (omega (arith, are.some)),
       )
-
-  -- a moment of a first job, and the moments of the first jobs after it
-  pub later_read : (m i : ℕ) → read_at (beat_in beats 0) (m + i) ≡ read_at (beat_in beats 0) m + i * (beat_in beats 0).period
-  later_read m i = omega arith
 
   -- each reaction is 1 tick or more
   pub reaction_some : (m : ℕ) → 1 ≤ reaction_of beats m

@@ -4,25 +4,12 @@ use Rattle.std.specs.Prelude.{slice_index, sum_by, slice_index_or}
 use Rattle.std.proofs.lemmas.Bool.{cases_lt}
 use Rattle.std.proofs.lemmas.List.{get_or_default}
 use Rattle.std.proofs.lemmas.List.Sums.{sum_by-cons}
-use Rattle.cl_model.specs.declared.group.Group.{Group}
-use Rattle.cl_model.specs.Groups.{no_group, group_at}
-use Rattle.cl_model.specs.Timing.{least_distance}
-use Rattle.cl_runs.specs.Pattern.{first_least}
-use Rattle.cl_runs.specs.TaskTiming.{System, timing_at}
-use Rattle.cl_runs.specs.Chains.{JobChain, chain_length, last_group, first_job, last_job, IsForwardChain, IsAgeChain, IsReducedChain}
-use Rattle.cl_runs.specs.RunChains.{ideal_moments}
-use Rattle.cl_exact.specs.declared.beat.Beat.{Beat}
-use Rattle.cl_exact.specs.declared.scan.Greatest.{Greatest}
-use Rattle.cl_exact.specs.declared.witness.Witness.{Witness}
-use Rattle.cl_exact.specs.ExactLengths.{second_arrival, HaveAllBegun, start_up, IsSteadyForward, IsSteadyAge, IsSteadyReduced, chain_of, IsExact}
-use Rattle.cl_exact.specs.Inner.Beats.{AreBeatsOf, no_beat, beat_in, read_at, write_at, first_reader, forward_start, forward_end, reaction_of}
-use Rattle.cl_exact.specs.Inner.Scans.{IsGreatestOf}
-use Rattle.cl_exact.specs.Inner.Walks.{start_of, start_up_of, IsLatestSecond}
-use Rattle.cl_exact.specs.Inner.Found.{last_beat, IsGreatestReaction, age_of, IsOldest, IsForwardWitness, IsAgeWitness, IsSameUpTo}
-use Rattle.cl_exact.proofs.BeatFacts.{reads_rise, reader_least}
-use Rattle.cl_exact.proofs.StartUps.{steady_late, begun_complete}
-use Rattle.cl_exact.proofs.Oldest.{age_within}
-use Rattle.cl_exact.proofs.FixedMoments.{reads_at, reads_is, last_reads, last_reads_is, forward_complete, forward_length, forward_made, age_made, age_back, age_length, reduced_made, reduced_back, reduced_length}
+use Rattle.cl_model.specs.{declared.group.Group.Group, Groups.{no_group, group_at}, Timing.least_distance}
+use Rattle.cl_runs.specs.{Pattern.first_least, TaskTiming.{System, timing_at}, Chains.{JobChain, chain_length, last_group, first_job, last_job, IsForwardChain, IsAgeChain, IsReducedChain}, RunChains.ideal_moments}
+use Rattle.cl_exact.specs.{declared.{beat.Beat.Beat, scan.Greatest.Greatest, witness.Witness.Witness}, ExactLengths.{second_arrival, HaveAllBegun, start_up, IsSteadyForward, IsSteadyAge, IsSteadyReduced, chain_of, IsExact}, Inner.Beats.{AreBeatsOf, no_beat, beat_in, read_at, write_at}}
+use Rattle.cl_exact.specs.Inner.{Beats.{first_reader, forward_start, forward_end, reaction_of}, Scans.IsGreatestOf, Walks.{start_of, start_up_of, IsLatestSecond}, Found.{last_beat, IsGreatestReaction, age_of, IsOldest, IsForwardWitness, IsAgeWitness, IsSameUpTo}}
+use Rattle.cl_exact.proofs.{BeatFacts.{reads_rise, reader_least}, StartUps.{steady_late, begun_complete}, Oldest.age_within, FixedMoments.{reads_at, reads_is, last_reads, last_reads_is, forward_complete, forward_length, forward_made, age_made, age_back, age_length, reduced_made}}
+use Rattle.cl_exact.proofs.FixedMoments.{reduced_back, reduced_length}
 
 -- sums over two lists whose items give the same
 same_sums : {X Y : Type 0} (f : X → ℕ) (g : Y → ℕ) (xs : List X) (ys : List Y) (d : X) (e : Y) → length xs ≡ length ys

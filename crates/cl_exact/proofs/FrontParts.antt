@@ -3,25 +3,11 @@ use Rattle.std.proofs.Common.{◌≡◌, ℕ, zero, suc, ◌+◌, ◌-◌, ◌/�
 use Rattle.std.specs.Int.{◌∣◌}
 use Rattle.std.proofs.lemmas.List.{get_or-take, length-take}
 use Rattle.cl_model.specs.declared.group.Group.{Group}
-use Rattle.cl_runs.specs.TaskTiming.{System}
-use Rattle.cl_runs.specs.Chains.{JobChain, first_job, IsForwardChain}
-use Rattle.cl_runs.specs.RunChains.{ideal_moments}
-use Rattle.cl_exact.specs.declared.beat.Beat.{Beat}
-use Rattle.cl_exact.specs.declared.fronts.Front.{Front}
-use Rattle.cl_exact.specs.ExactLengths.{Witnesses, AreExactLengths, IsSteadyForward, chain_of}
-use Rattle.cl_exact.specs.Inner.Beats.{AreBeats, AreBeatsOf, no_beat, beat_in, read_at, write_at, first_reader, forward_job, forward_write, forward_start, forward_end, reaction_of}
-use Rattle.cl_exact.specs.Inner.Blocks.{EARLY, IsEarlyBlock}
-use Rattle.cl_exact.specs.Inner.Periods.{IsMultipleOfFirst}
-use Rattle.cl_exact.specs.Inner.Walks.{IsLatestSecond}
-use Rattle.cl_exact.specs.Inner.Fronts.{reaction_to, IsGreatestTo, IsGreatestSteady, IsWidest}
-use Rattle.cl_exact.proofs.BeatFacts.{reads_rise}
-use Rattle.cl_exact.proofs.ForwardJobs.{reaction_some}
-use Rattle.cl_exact.proofs.FixedMoments.{reads_at, forward_complete, forward_length, forward_made}
-use Rattle.cl_exact.proofs.Shifts.{above_over_all, some_turns, turns_of}
-use Rattle.cl_exact.proofs.StartUps.{begun_complete, steady_late}
-use Rattle.cl_exact.proofs.WholeScan.{first_some, scan_early}
-use Rattle.cl_exact.proofs.Existence.{has_forward, has_latest}
-use Rattle.cl_exact.proofs.FoundExact.{begun, some_group}
+use Rattle.cl_runs.specs.{TaskTiming.System, Chains.{JobChain, first_job, IsForwardChain}, RunChains.ideal_moments}
+use Rattle.cl_exact.specs.{declared.{beat.Beat.Beat, fronts.Front.Front}, ExactLengths.{Witnesses, AreExactLengths, IsSteadyForward, chain_of}, Inner.Beats.{AreBeats, AreBeatsOf, no_beat, beat_in, read_at, write_at, first_reader, forward_job, forward_write, forward_start, forward_end}}
+use Rattle.cl_exact.specs.Inner.{Beats.reaction_of, Blocks.{EARLY, IsEarlyBlock}, Periods.IsMultipleOfFirst, Walks.IsLatestSecond, Fronts.{reaction_to, IsGreatestTo, IsGreatestSteady, IsWidest}}
+use Rattle.cl_exact.proofs.{BeatFacts.reads_rise, ForwardJobs.reaction_some, FixedMoments.{reads_at, forward_complete, forward_length, forward_made}, Shifts.{above_over_all, some_turns, turns_of}, StartUps.{begun_complete, steady_late}, WholeScan.{first_some, scan_early}}
+use Rattle.cl_exact.proofs.{Existence.{has_forward, has_latest}, FoundExact.{begun, some_group}}
 
 -- ---- the beats and the chains of a front part
 

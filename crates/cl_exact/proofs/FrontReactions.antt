@@ -4,23 +4,11 @@ use Rattle.std.specs.Prelude.{All, MatchOption}
 use Rattle.std.proofs.lemmas.Bool.{true≢false}
 use Rattle.std.proofs.lemmas.List.{get_or-take, length-take}
 use Rattle.std.proofs.lemmas.List.Elements.{All-take}
-use Rattle.cl_model.specs.declared.group.Group.{Group}
-use Rattle.cl_model.specs.declared.limits.TheConstants.{MOST_STEPS}
-use Rattle.cl_model.specs.declared.model.SystemModel.{SystemModel}
-use Rattle.cl_model.specs.Groups.{no_group, group_at, IsGroupOf}
-use Rattle.cl_model.specs.Validity.{IsValid}
-use Rattle.cl_runs.specs.TaskTiming.{System, timing_at}
-use Rattle.cl_runs.specs.SystemOf.{system_of}
-use Rattle.cl_exact.specs.declared.beat.Beat.{Beat}
-use Rattle.cl_exact.specs.TimedPeriodic.{is_timed_periodic_task, are_timed_periodic}
-use Rattle.cl_exact.specs.Hyperperiod.{IsWithinLimit, IsPastLimit}
-use Rattle.cl_exact.specs.ExactReactions.{HasNoExactReaction, IsReactionOf}
-use Rattle.cl_exact.specs.Inner.Beats.{IsBeatOf, AreBeatsOf, beat_in}
-use Rattle.cl_exact.specs.Inner.Fronts.{IsGreatestSteady, IsReactionOfBeats}
-use Rattle.cl_exact.proofs.ModelBeats.{AreTimedGroups, task_passes, nothing_fails, passes_more}
-use Rattle.cl_exact.proofs.ModelExact.{groups_have_lengths}
-use Rattle.cl_exact.proofs.ExactOnce.{within_or_past}
-use Rattle.cl_exact.proofs.FrontParts.{front_beat, front_length, front_beats, steady_is_exact}
+use Rattle.cl_model.specs.{declared.{group.Group.Group, limits.TheConstants.MOST_STEPS, model.SystemModel.SystemModel}, Groups.{no_group, group_at, IsGroupOf}, Validity.IsValid}
+use Rattle.cl_runs.specs.{TaskTiming.{System, timing_at}, SystemOf.system_of}
+use Rattle.cl_exact.specs.{declared.beat.Beat.Beat, TimedPeriodic.{is_timed_periodic_task, are_timed_periodic}, Hyperperiod.{IsWithinLimit, IsPastLimit}, ExactReactions.{HasNoExactReaction, IsReactionOf}, Inner.{Beats.{IsBeatOf, AreBeatsOf, beat_in}, Fronts.IsGreatestSteady}}
+use Rattle.cl_exact.specs.Inner.Fronts.{IsReactionOfBeats}
+use Rattle.cl_exact.proofs.{ModelBeats.{AreTimedGroups, task_passes, nothing_fails, passes_more}, ModelExact.groups_have_lengths, ExactOnce.within_or_past, FrontParts.{front_beat, front_length, front_beats, steady_is_exact}}
 
 -- ---- front parts of groups
 

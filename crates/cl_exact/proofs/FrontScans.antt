@@ -4,12 +4,8 @@ use Rattle.std.specs.Prelude.{slice_index, slice_set, EachIndex, SomeIndex}
 use Rattle.std.proofs.lemmas.Bool.{cases_lt}
 use Rattle.std.proofs.lemmas.List.{get_or-set_same, get_or-set_other}
 use Rattle.cl_lanes.specs.Gaps.{HasGap}
-use Rattle.cl_exact.specs.declared.beat.Beat.{Beat}
-use Rattle.cl_exact.specs.Inner.Beats.{AreBeats, beat_in, forward_start, forward_write}
-use Rattle.cl_exact.specs.Inner.Blocks.{AreWrites, AreStarts}
-use Rattle.cl_exact.specs.Inner.Fronts.{reaction_to, IsGreatestTo, AreGreatestTo}
-use Rattle.cl_exact.proofs.BeatFacts.{reads_rise}
-use Rattle.cl_exact.proofs.ForwardJobs.{reads_after}
+use Rattle.cl_exact.specs.{declared.beat.Beat.Beat, Inner.{Beats.{AreBeats, beat_in, forward_start, forward_write}, Blocks.{AreWrites, AreStarts}, Fronts.{reaction_to, IsGreatestTo, AreGreatestTo}}}
+use Rattle.cl_exact.proofs.{BeatFacts.reads_rise, ForwardJobs.reads_after}
 
 module _ (beats : List Beat) (are : AreBeats beats) (place first : ℕ) (within : place < length beats) (ends starts : List ℕ)
     (are_writes : AreWrites beats place first ends) (are_starts : AreStarts beats first starts) (as_many : length ends ≡ length starts) where

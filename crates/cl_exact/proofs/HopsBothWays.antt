@@ -3,12 +3,8 @@
 use Rattle.std.proofs.Common.{◌≡◌, ℕ, zero, suc, ◌-◌, ◌<◌, ◌≤◌, ◌↔◌, List, length, ap, subst, arith, inl, inr}
 use Rattle.std.specs.Prelude.{slice_index}
 use Rattle.std.proofs.lemmas.Bool.{cases_lt}
-use Rattle.cl_model.specs.declared.group.Group.{Group}
-use Rattle.cl_model.specs.Groups.{group_at}
-use Rattle.cl_runs.specs.TaskTiming.{System, IsSound}
-use Rattle.cl_runs.specs.Chains.{Moments, IsEarliestReader, IsLatestWriter, JobChain, first_job, last_job, IsForwardChain, AreBackwardLinks}
-use Rattle.cl_runs.specs.RunChains.{ideal_moments}
-use Rattle.cl_runs.specs.MomentOrder.{AreInOrder, AreGroupsOf}
+use Rattle.cl_model.specs.{declared.group.Group.Group, Groups.group_at}
+use Rattle.cl_runs.specs.{TaskTiming.{System, IsSound}, Chains.{Moments, IsEarliestReader, IsLatestWriter, JobChain, first_job, last_job, IsForwardChain, AreBackwardLinks}, RunChains.ideal_moments, MomentOrder.{AreInOrder, AreGroupsOf}}
 use Rattle.cl_runs.proofs.OrderedMoments.{ideal_in_order}
 use Rattle.cl_exact.specs.Hops.{HasNoWriter}
 

@@ -5,12 +5,8 @@ use Rattle.std.specs.Option.{is_some}
 use Rattle.std.proofs.lemmas.Bool.{true≢false}
 use Rattle.cl_model.specs.declared.group.Group.{Group}
 use Rattle.cl_runs.specs.TaskTiming.{System}
-use Rattle.cl_exact.specs.declared.beat.Beat.{Beat}
-use Rattle.cl_exact.specs.Hyperperiod.{hyper_limit, IsWithinLimit, IsPastLimit}
-use Rattle.cl_exact.specs.Inner.Beats.{AreBeatsOf}
-use Rattle.cl_exact.specs.Inner.Periods.{IsLeastMultiple}
-use Rattle.cl_exact.proofs.ExactOnce.{within_or_past}
-use Rattle.cl_exact.proofs.PeriodFacts.{is_hyperperiod}
+use Rattle.cl_exact.specs.{declared.beat.Beat.Beat, Hyperperiod.{hyper_limit, IsWithinLimit, IsPastLimit}, Inner.{Beats.AreBeatsOf, Periods.IsLeastMultiple}}
+use Rattle.cl_exact.proofs.{ExactOnce.within_or_past, PeriodFacts.is_hyperperiod}
 
 -- the beats, as a slice
 pub seen : (system : System) (groups : List Group) (numbers beats : List Beat) → beats ≡ numbers → AreBeatsOf system groups numbers → AreBeatsOf system groups beats

@@ -7,26 +7,12 @@ use Rattle.std.proofs.Math.ListN.{get_or-append}
 use Rattle.std.proofs.Math.Seq.{get_or-append_seam}
 use Rattle.std.proofs.Common.{length-append}
 use Rattle.std.proofs.lemmas.List.Folds.{list_all_at, list_all_more}
-use Rattle.cl_model.specs.declared.model.SystemModel.{SystemModel}
-use Rattle.cl_model.specs.declared.group.Group.{Group}
-use Rattle.cl_model.specs.declared.limits.TheConstants.{MOST_STEPS}
-use Rattle.cl_model.specs.declared.stimulus.StimulusKind.{StimulusKind}
-use Rattle.cl_model.specs.declared.stimulus.StimulusKind.TheVariants.{Periodic, Sporadic, Burst}
-use Rattle.cl_model.specs.declared.task.TaskDef.{TaskDef}
-use Rattle.cl_model.specs.ByNumber.{task_at, stimulus_of, deadline_of}
-use Rattle.cl_model.specs.Groups.{no_group, group_at, groups_at, IsGroupOf}
-use Rattle.cl_model.specs.Ranges.{IsKindInRange}
-use Rattle.cl_model.specs.Timing.{least_distance}
-use Rattle.cl_model.specs.Validity.{IsValid}
-use Rattle.cl_model.specs.Kinds.{is_timed, is_periodic}
-use Rattle.cl_model.proofs.ValidTasks.{kind_in_range, early_enough, released_before}
-use Rattle.cl_model.proofs.GroupFacts.{groups_at_are, groups_at_some, groups_at_few}
-use Rattle.cl_runs.specs.TaskTiming.{Timing, System, timing_at}
-use Rattle.cl_runs.specs.SystemOf.{system_of}
+use Rattle.cl_model.specs.{declared.{model.SystemModel.SystemModel, group.Group.Group, limits.TheConstants.MOST_STEPS, stimulus.StimulusKind.{StimulusKind, TheVariants.{Periodic, Sporadic, Burst}}, task.TaskDef.TaskDef}, ByNumber.{task_at, stimulus_of, deadline_of}, Groups.no_group}
+use Rattle.cl_model.specs.{Groups.{group_at, groups_at, IsGroupOf}, Ranges.IsKindInRange, Timing.least_distance, Validity.IsValid, Kinds.{is_timed, is_periodic}}
+use Rattle.cl_model.proofs.{ValidTasks.{kind_in_range, early_enough, released_before}, GroupFacts.{groups_at_are, groups_at_some, groups_at_few}}
+use Rattle.cl_runs.specs.{TaskTiming.{Timing, System, timing_at}, SystemOf.system_of}
 use Rattle.cl_runs.proofs.ModelSystem.{timing_is}
-use Rattle.cl_exact.specs.declared.beat.Beat.{Beat}
-use Rattle.cl_exact.specs.TimedPeriodic.{is_timed_periodic_task, are_timed_periodic, is_timed_periodic_chain}
-use Rattle.cl_exact.specs.Inner.Beats.{no_beat, beat_in, IsBeat, IsBeatOf, AreBeatsOf}
+use Rattle.cl_exact.specs.{declared.beat.Beat.Beat, TimedPeriodic.{is_timed_periodic_task, are_timed_periodic, is_timed_periodic_chain}, Inner.Beats.{no_beat, beat_in, IsBeat, IsBeatOf, AreBeatsOf}}
 
 -- groups of a model whose tasks are all timed and periodic: at least one, and no more than a chain may have
 pub record AreTimedGroups (model : SystemModel) (groups : List Group) : Type 0 where

@@ -2,36 +2,13 @@
 -- tied.
 use Rattle.std.proofs.Common.{◌≡◌, ℕ, zero, suc, ◌+◌, ◌-◌, ◌<◌, ◌≤◌, true, List, [], ◌∷◌, ◌++◌, length, refl, subst, arith, inl, inr}
 use Rattle.std.specs.Prelude.{slice_index}
-use Rattle.cl_model.specs.declared.model.SystemModel.{SystemModel}
-use Rattle.cl_model.specs.declared.group.Group.{Group}
-use Rattle.cl_model.specs.declared.stimulus.StimulusKind.{StimulusKind}
-use Rattle.cl_model.specs.declared.stimulus.StimulusKind.TheVariants.{Periodic, Sporadic, Burst}
-use Rattle.cl_model.specs.ByNumber.{stimulus_of, deadline_of}
-use Rattle.cl_model.specs.Groups.{no_group, group_at, groups_at}
-use Rattle.cl_model.specs.Validity.{IsValid}
-use Rattle.cl_model.specs.Kinds.{is_periodic}
-use Rattle.cl_runs.specs.TaskTiming.{System}
-use Rattle.cl_runs.specs.SystemOf.{system_of}
-use Rattle.cl_exact.specs.declared.beat.Beat.{Beat}
-use Rattle.cl_exact.specs.declared.scan.Greatest.{Greatest}
-use Rattle.cl_exact.specs.declared.witness.Witness.{Witness}
-use Rattle.cl_exact.specs.TimedPeriodic.{is_timed_periodic_chain}
-use Rattle.cl_exact.specs.ExactLengths.{Witnesses, AreExactLengths}
-use Rattle.cl_exact.specs.Ties.{AreTied, HasExactLengths}
-use Rattle.cl_exact.specs.Inner.Beats.{AreBeatsOf, beat_in, read_at, write_at, first_reader, forward_job, forward_start, forward_end}
-use Rattle.cl_exact.specs.Inner.Scans.{IsGreatestOf}
-use Rattle.cl_exact.specs.Inner.Walks.{start_up_of, IsLatestSecond}
-use Rattle.cl_exact.specs.Inner.Found.{last_beat, IsGreatestReaction, age_of, IsOldest, IsForwardWitness, IsAgeWitness, IsSameUpTo}
-use Rattle.cl_exact.proofs.ExactOnce.{exact_unique}
-use Rattle.cl_exact.proofs.ModelBeats.{AreTimedGroups, timed_chain, task_passes, is_of_period, beat_is_of, beat_in_range, AreFirstBeats, no_beats, beats_more, all_beats}
-use Rattle.cl_exact.proofs.PeriodFacts.{least_of_none, has_least, last_period}
-use Rattle.cl_exact.proofs.ReactionAge.{complete_after}
-use Rattle.cl_exact.proofs.Shifts.{turns_of, some_turns, greatest_over_all}
-use Rattle.cl_exact.proofs.StartUps.{steady_late, begun_complete, last_steady_late}
-use Rattle.cl_exact.proofs.Oldest.{oldest_is}
-use Rattle.cl_exact.proofs.FoundExact.{reaction_exact, age_exact, reduced_exact}
-use Rattle.cl_exact.proofs.WholeScan.{period_in_age, same_lengths}
-use Rattle.cl_exact.proofs.Existence.{has_forward, has_backward, has_greatest, has_first, has_latest}
+use Rattle.cl_model.specs.{declared.{model.SystemModel.SystemModel, group.Group.Group, stimulus.StimulusKind.{StimulusKind, TheVariants.{Periodic, Sporadic, Burst}}}, ByNumber.{stimulus_of, deadline_of}, Groups.{no_group, group_at, groups_at}, Validity.IsValid, Kinds.is_periodic}
+use Rattle.cl_runs.specs.{TaskTiming.System, SystemOf.system_of}
+use Rattle.cl_exact.specs.{declared.{beat.Beat.Beat, scan.Greatest.Greatest, witness.Witness.Witness}, TimedPeriodic.is_timed_periodic_chain, ExactLengths.{Witnesses, AreExactLengths}, Ties.{AreTied, HasExactLengths}, Inner.Beats.{AreBeatsOf, beat_in, read_at, write_at, first_reader}}
+use Rattle.cl_exact.specs.Inner.{Beats.{forward_job, forward_start, forward_end}, Scans.IsGreatestOf, Walks.{start_up_of, IsLatestSecond}, Found.{last_beat, IsGreatestReaction, age_of, IsOldest, IsForwardWitness, IsAgeWitness, IsSameUpTo}}
+use Rattle.cl_exact.proofs.{ExactOnce.exact_unique, ModelBeats.{AreTimedGroups, timed_chain, task_passes, is_of_period, beat_is_of, beat_in_range, AreFirstBeats, no_beats, beats_more, all_beats}, PeriodFacts.{least_of_none, has_least, last_period}, ReactionAge.complete_after}
+use Rattle.cl_exact.proofs.{Shifts.{turns_of, some_turns, greatest_over_all}, StartUps.{steady_late, begun_complete, last_steady_late}, Oldest.oldest_is, FoundExact.{reaction_exact, age_exact, reduced_exact}, WholeScan.{period_in_age, same_lengths}, Existence.{has_forward, has_backward}}
+use Rattle.cl_exact.proofs.Existence.{has_greatest, has_first, has_latest}
 
 -- ---- the beats of groups
 

@@ -2,15 +2,8 @@
 use Rattle.std.proofs.Common.{◌≡◌, ℕ, ◌+◌, ◌-◌, ◌*◌, ◌<◌, ◌≤◌, List, length, sym, arith, inl, inr}
 use Rattle.std.specs.Prelude.{slice_index}
 use Rattle.std.proofs.lemmas.Bool.{cases_lt}
-use Rattle.cl_exact.specs.declared.beat.Beat.{Beat}
-use Rattle.cl_exact.specs.Inner.Beats.{AreBeats, beat_in, read_at, first_reader, forward_job, reaction_of}
-use Rattle.cl_exact.specs.Inner.Blocks.{EARLY}
-use Rattle.cl_exact.specs.Inner.Scans.{IsFirstWith}
-use Rattle.cl_exact.specs.Inner.Walks.{IsBackwardWalk, start_up_of}
-use Rattle.cl_exact.specs.Inner.Found.{last_beat, IsGreatestReaction, age_of, IsOldest, MOST_HYPERPERIOD}
-use Rattle.cl_exact.proofs.BeatFacts.{reads_rise, reader_least, last_place}
-use Rattle.cl_exact.proofs.ForwardJobs.{HOP, jobs_rise, writes_soon, reaction_some}
-use Rattle.cl_exact.proofs.ReactionAge.{begins_before, passes_before, complete_after, ends_after, age_at_most, ends_with_next, age_at_least, reads_before_last}
+use Rattle.cl_exact.specs.{declared.beat.Beat.Beat, Inner.{Beats.{AreBeats, beat_in, read_at, first_reader, forward_job, reaction_of}, Blocks.EARLY, Scans.IsFirstWith, Walks.{IsBackwardWalk, start_up_of}, Found.{last_beat, IsGreatestReaction, age_of, IsOldest, MOST_HYPERPERIOD}}}
+use Rattle.cl_exact.proofs.{BeatFacts.{reads_rise, reader_least, last_place}, ForwardJobs.{HOP, jobs_rise, writes_soon, reaction_some}, ReactionAge.{begins_before, passes_before, complete_after, ends_after, age_at_most, ends_with_next, age_at_least, reads_before_last}}
 use Rattle.cl_exact.proofs.StartUps.{last_steady_late, last_steady_soon}
 
 module _ (beats : List Beat) (are : AreBeats beats) (count age : ℕ) (greatest : IsGreatestReaction beats count age) where

@@ -7,16 +7,9 @@ use Rattle.std.proofs.lemmas.List.{get_or_default}
 use Rattle.std.proofs.lemmas.Nat.Gcd.{dvd_trans, le_of_dvd, IsGcd-from_zero, IsGcd-from_mod}
 use Rattle.cl_time.specs.Divisors.{IsLcm}
 use Rattle.cl_time.proofs.Multiples.{IsLcm-from_gcd, IsLcm-pos}
-use Rattle.cl_model.specs.declared.group.Group.{Group}
-use Rattle.cl_model.specs.Groups.{no_group, group_at}
-use Rattle.cl_model.specs.Timing.{least_distance}
-use Rattle.cl_runs.specs.TaskTiming.{System}
-use Rattle.cl_runs.specs.Chains.{last_group}
-use Rattle.cl_exact.specs.declared.beat.Beat.{Beat}
-use Rattle.cl_exact.specs.Hyperperiod.{period_of, IsHyperperiod}
-use Rattle.cl_exact.specs.Inner.Beats.{AreBeats, AreBeatsOf, beat_in}
-use Rattle.cl_exact.specs.Inner.Found.{last_beat}
-use Rattle.cl_exact.specs.Inner.Periods.{IsLeastOfFirst, IsLeastMultiple}
+use Rattle.cl_model.specs.{declared.group.Group.Group, Groups.{no_group, group_at}, Timing.least_distance}
+use Rattle.cl_runs.specs.{TaskTiming.System, Chains.last_group}
+use Rattle.cl_exact.specs.{declared.beat.Beat.Beat, Hyperperiod.{period_of, IsHyperperiod}, Inner.{Beats.{AreBeats, AreBeatsOf, beat_in}, Found.last_beat, Periods.{IsLeastOfFirst, IsLeastMultiple}}}
 
 -- two numbers have a greatest common divisor
 has_gcd : (n a b : ℕ) → b ≤ n → (g : ℕ) × IsGcd a b g

@@ -3,10 +3,7 @@
 use Rattle.std.proofs.Common.{◌≡◌, ℕ, zero, suc, ◌+◌, ◌-◌, ◌<◌, ◌≤◌, List, length, ap, arith, inl, inr}
 use Rattle.std.specs.Prelude.{slice_index}
 use Rattle.std.proofs.lemmas.Bool.{cases_lt}
-use Rattle.cl_exact.specs.declared.beat.Beat.{Beat}
-use Rattle.cl_exact.specs.Inner.Beats.{AreBeats, beat_in, read_at, write_at, forward_job, forward_write, reaction_of}
-use Rattle.cl_exact.specs.Inner.Walks.{IsBackwardWalk}
-use Rattle.cl_exact.specs.Inner.Found.{last_beat, IsComplete, age_of}
+use Rattle.cl_exact.specs.{declared.beat.Beat.Beat, Inner.{Beats.{AreBeats, beat_in, read_at, write_at, forward_job, forward_write, reaction_of}, Walks.IsBackwardWalk, Found.{last_beat, IsComplete, age_of}}}
 use Rattle.cl_exact.proofs.BeatFacts.{reads_rise, reader_after, reader_least, next_read, some_period, last_place}
 
 module _ (beats : List Beat) (are : AreBeats beats) (last : ℕ) (jobs : List ℕ) (back : IsBackwardWalk beats last jobs) where

@@ -3,12 +3,8 @@
 use Rattle.std.proofs.Common.{◌≡◌, ℕ, zero, suc, ◌+◌, ◌-◌, ◌<◌, ◌≤◌, inl, inr, List, length, subst, arith}
 use Rattle.std.specs.Prelude.{slice_index, All}
 use Rattle.std.proofs.lemmas.Bool.{cases_lt}
-use Rattle.cl_model.specs.declared.group.Group.{Group}
-use Rattle.cl_model.specs.Groups.{no_group, group_at}
-use Rattle.cl_runs.specs.TaskTiming.{System}
-use Rattle.cl_runs.specs.Run.{Run}
-use Rattle.cl_runs.specs.Chains.{Moments, HasWritten, IsEarliestReader, IsLatestWriter, JobChain, last_group, first_job, last_job, IsForwardChain, AreBackwardLinks, IsAgeChain, IsReducedChain}
-use Rattle.cl_runs.specs.MomentOrder.{AreInOrder, HaveReadBeforeWriting}
+use Rattle.cl_model.specs.{declared.group.Group.Group, Groups.{no_group, group_at}}
+use Rattle.cl_runs.specs.{TaskTiming.System, Run.Run, Chains.{Moments, HasWritten, IsEarliestReader, IsLatestWriter, JobChain, last_group, first_job, last_job, IsForwardChain, AreBackwardLinks, IsAgeChain, IsReducedChain}, MomentOrder.{AreInOrder, HaveReadBeforeWriting}}
 use Rattle.cl_runs.specs.RunChains.{run_moments, ideal_moments}
 use Rattle.cl_exact.specs.RunPromises.{IsIdealUntilTheEnd}
 

@@ -3,32 +3,15 @@
 use Rattle.std.proofs.Common.{◌≡◌, ℕ, ◌+◌, ◌-◌, ◌<◌, ◌≤◌, true, List, length, refl, sym, subst, arith}
 use Rattle.std.specs.Prelude.{All}
 use Rattle.std.proofs.lemmas.List.Sums.{get_or-le-sum_by}
-use Rattle.cl_model.specs.declared.group.Group.{Group}
-use Rattle.cl_model.specs.declared.model.SystemModel.{SystemModel}
-use Rattle.cl_model.specs.Groups.{no_group, group_at, groups_at, IsGroupOf}
-use Rattle.cl_model.specs.Validity.{IsValid}
+use Rattle.cl_model.specs.{declared.{group.Group.Group, model.SystemModel.SystemModel}, Groups.{no_group, group_at, groups_at, IsGroupOf}, Validity.IsValid}
 use Rattle.cl_model.proofs.GroupFacts.{groups_at_are}
-use Rattle.cl_runs.specs.TaskTiming.{System, timing_at, IsSound}
-use Rattle.cl_runs.specs.Pattern.{IsPattern}
-use Rattle.cl_runs.specs.SystemOf.{system_of}
-use Rattle.cl_runs.specs.Run.{Run}
-use Rattle.cl_runs.specs.Legal.{IsLegal}
-use Rattle.cl_runs.specs.Chains.{JobChain, last_group, first_job, last_job, IsForwardChain, AreBackwardLinks, IsAgeChain, IsReducedChain}
-use Rattle.cl_runs.specs.MomentOrder.{AreInOrder, HaveReadBeforeWriting}
-use Rattle.cl_runs.specs.RunChains.{run_moments, ideal_moments}
-use Rattle.cl_runs.proofs.Extension.{some_legal}
-use Rattle.cl_runs.proofs.ModelSystem.{system_sound}
-use Rattle.cl_runs.proofs.OrderedMoments.{ideal_in_order, ideal_has_read}
-use Rattle.cl_exact.specs.TimedPeriodic.{are_timed_periodic, is_timed_periodic_chain}
-use Rattle.cl_exact.specs.Hyperperiod.{period_of}
-use Rattle.cl_exact.specs.ExactLengths.{second_arrival, HaveAllBegun, start_up, IsSteadyForward, IsSteadyAge, IsSteadyReduced, chain_of, Witnesses, AreExactLengths}
-use Rattle.cl_exact.specs.RunPromises.{HaveResponses, IsSettledTimedChain, IsIdealUntilTheEnd, AreIdealUntilTheEnd, AlwaysIdealUntilTheEnd, AreGreatestIn, AreAttainedIn, AreExactInRuns, HasWitnessRun}
-use Rattle.cl_exact.proofs.RunMoments.{task_period, ideal_until_the_end}
-use Rattle.cl_exact.proofs.RunTasks.{ideal_groups, groups_of_system, settled_timed_groups}
-use Rattle.cl_exact.proofs.RunChains.{ideal_forward, ideal_age, ideal_reduced}
-use Rattle.cl_exact.proofs.RunWitnesses.{forward_in_run, age_in_run, reduced_in_run}
-use Rattle.cl_exact.proofs.RunMultiples.{IsCommonMultiple, common_multiple}
-use Rattle.cl_exact.proofs.RunShifts.{ArePeriodic, arrival_at, reads_at, write_is, writes_at, moved_chain, first_late, last_late, forward_moved, age_moved, reduced_moved}
+use Rattle.cl_runs.specs.{TaskTiming.{System, timing_at, IsSound}, Pattern.IsPattern, SystemOf.system_of, Run.Run, Legal.IsLegal, Chains.{JobChain, last_group, first_job, last_job, IsForwardChain, AreBackwardLinks, IsAgeChain, IsReducedChain}, MomentOrder.AreInOrder}
+use Rattle.cl_runs.specs.{MomentOrder.HaveReadBeforeWriting, RunChains.{run_moments, ideal_moments}}
+use Rattle.cl_runs.proofs.{Extension.some_legal, ModelSystem.system_sound, OrderedMoments.{ideal_in_order, ideal_has_read}}
+use Rattle.cl_exact.specs.{TimedPeriodic.{are_timed_periodic, is_timed_periodic_chain}, Hyperperiod.period_of, ExactLengths.{second_arrival, HaveAllBegun, start_up, IsSteadyForward, IsSteadyAge, IsSteadyReduced, chain_of, Witnesses, AreExactLengths}, RunPromises.HaveResponses}
+use Rattle.cl_exact.specs.RunPromises.{IsSettledTimedChain, IsIdealUntilTheEnd, AreIdealUntilTheEnd, AlwaysIdealUntilTheEnd, AreGreatestIn, AreAttainedIn, AreExactInRuns, HasWitnessRun}
+use Rattle.cl_exact.proofs.{RunMoments.{task_period, ideal_until_the_end}, RunTasks.{ideal_groups, groups_of_system, settled_timed_groups}, RunChains.{ideal_forward, ideal_age, ideal_reduced}, RunWitnesses.{forward_in_run, age_in_run, reduced_in_run}, RunMultiples.IsCommonMultiple}
+use Rattle.cl_exact.proofs.{RunMultiples.common_multiple, RunShifts.{ArePeriodic, arrival_at, reads_at, write_is, writes_at, moved_chain, first_late, last_late, forward_moved, age_moved, reduced_moved}}
 
 module _ (system : System) (sound : IsSound system) (groups : List Group) (chain : IsSettledTimedChain system groups) where
   in_order : AreInOrder (ideal_moments system) groups

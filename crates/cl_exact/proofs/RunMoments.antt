@@ -2,25 +2,10 @@
 use Rattle.std.proofs.Common.{◌≡◌, ℕ, ◌+◌, ◌*◌, ◌<◌, ◌≤◌, inl, inr, length, refl, sym, subst, arith}
 use Rattle.std.proofs.lemmas.Bool.{cases_lt}
 use Rattle.std.proofs.Math.Nat.{mul-le-mul_right}
-use Rattle.cl_model.specs.declared.stimulus.StimulusKind.{StimulusKind}
-use Rattle.cl_model.specs.declared.stimulus.StimulusKind.TheVariants.{Periodic}
-use Rattle.cl_model.specs.declared.task.AccessKind.{AccessKind}
-use Rattle.cl_model.specs.declared.task.AccessKind.TheVariants.{Timed}
-use Rattle.cl_model.specs.declared.group.Group.{Group}
-use Rattle.cl_model.specs.Timing.{least_distance, greatest_jitter}
-use Rattle.cl_runs.specs.TaskTiming.{System, timing_at, IsSound}
-use Rattle.cl_runs.specs.Pattern.{first_least}
-use Rattle.cl_runs.specs.Arrivals.{FollowPattern}
-use Rattle.cl_runs.specs.ArrivalsByKind.{FollowsPeriod}
-use Rattle.cl_runs.specs.Table.{job_at}
-use Rattle.cl_runs.specs.Run.{Run, jobs_of}
-use Rattle.cl_runs.specs.Legal.{IsLegal}
-use Rattle.cl_runs.specs.Moments.{ReadsBy, WritesBy, Reads, Writes, WritesAtDeadline}
-use Rattle.cl_runs.specs.RunChains.{ArrivesAt, run_moments, ideal_moments}
-use Rattle.cl_runs.proofs.RunArrivals.{follow_pattern}
-use Rattle.cl_runs.proofs.PatternLaws.{pattern_period}
-use Rattle.cl_runs.proofs.MomentFacts.{reads_below, writes_within}
-use Rattle.cl_runs.specs.Responses.{IsTimely}
+use Rattle.cl_model.specs.{declared.{stimulus.StimulusKind.{StimulusKind, TheVariants.Periodic}, task.AccessKind.{AccessKind, TheVariants.Timed}, group.Group.Group}, Timing.{least_distance, greatest_jitter}}
+use Rattle.cl_runs.specs.{TaskTiming.{System, timing_at, IsSound}, Pattern.first_least, Arrivals.FollowPattern, ArrivalsByKind.FollowsPeriod, Table.job_at, Run.{Run, jobs_of}, Legal.IsLegal, Moments.{ReadsBy, WritesBy, Reads, Writes, WritesAtDeadline}, RunChains.{ArrivesAt, run_moments}}
+use Rattle.cl_runs.specs.{RunChains.ideal_moments, Responses.IsTimely}
+use Rattle.cl_runs.proofs.{RunArrivals.follow_pattern, PatternLaws.pattern_period, MomentFacts.{reads_below, writes_within}}
 use Rattle.cl_exact.specs.RunPromises.{IsIdealUntilTheEnd}
 
 -- ---- the numbers of a periodic task

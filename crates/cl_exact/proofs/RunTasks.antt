@@ -5,24 +5,12 @@ use Rattle.std.specs.List.{AllPass}
 use Rattle.std.proofs.lemmas.Bool.{and_parts, true≢false}
 use Rattle.std.proofs.lemmas.List.Elements.{All-weaker}
 use Rattle.std.proofs.lemmas.List.Sums.{AllPass-from_list_all}
-use Rattle.cl_model.specs.declared.group.Group.{Group}
-use Rattle.cl_model.specs.declared.model.SystemModel.{SystemModel}
-use Rattle.cl_model.specs.declared.stimulus.StimulusKind.{StimulusKind}
-use Rattle.cl_model.specs.declared.stimulus.StimulusKind.TheVariants.{Periodic, Sporadic, Burst}
-use Rattle.cl_model.specs.declared.task.AccessKind.{AccessKind}
-use Rattle.cl_model.specs.declared.task.AccessKind.TheVariants.{Explicit, Implicit, Timed}
-use Rattle.cl_model.specs.Groups.{groups_at, IsGroupOf}
-use Rattle.cl_model.specs.Timing.{least_distance, greatest_jitter}
-use Rattle.cl_model.specs.Validity.{IsValid}
-use Rattle.cl_model.specs.Kinds.{is_timed, is_periodic}
+use Rattle.cl_model.specs.{declared.{group.Group.Group, model.SystemModel.SystemModel, stimulus.StimulusKind.{StimulusKind, TheVariants.{Periodic, Sporadic, Burst}}, task.AccessKind.{AccessKind, TheVariants.{Explicit, Implicit, Timed}}}, Groups.{groups_at, IsGroupOf}}
+use Rattle.cl_model.specs.{Timing.{least_distance, greatest_jitter}, Validity.IsValid, Kinds.{is_timed, is_periodic}}
 use Rattle.cl_model.proofs.GroupFacts.{groups_at_are}
-use Rattle.cl_runs.specs.TaskTiming.{Timing, System, timing_at}
-use Rattle.cl_runs.specs.Pattern.{first_least}
-use Rattle.cl_runs.specs.SystemOf.{system_of}
-use Rattle.cl_runs.specs.MomentOrder.{AreGroupsOf}
+use Rattle.cl_runs.specs.{TaskTiming.{Timing, System, timing_at}, Pattern.first_least, SystemOf.system_of, MomentOrder.AreGroupsOf}
 use Rattle.cl_runs.proofs.ModelSystem.{range_count_is}
-use Rattle.cl_exact.specs.TimedPeriodic.{is_timed_periodic_task, are_timed_periodic, is_timed_periodic_chain}
-use Rattle.cl_exact.specs.RunPromises.{HaveResponses, HasItsRunnables, IsSettledTimedChain}
+use Rattle.cl_exact.specs.{TimedPeriodic.{is_timed_periodic_task, are_timed_periodic, is_timed_periodic_chain}, RunPromises.{HaveResponses, HasItsRunnables, IsSettledTimedChain}}
 use Rattle.cl_exact.proofs.RunMoments.{IsIdealGroup}
 
 timed_kind : (access : AccessKind) → is_timed access ≡ true → access ≡ Timed

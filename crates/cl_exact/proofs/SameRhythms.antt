@@ -7,23 +7,11 @@ use Rattle.std.proofs.Math.ListN.{length-map}
 use Rattle.std.proofs.lemmas.List.{get_or-map}
 use Rattle.std.proofs.lemmas.List.Folds.{list_all-map}
 use Rattle.std.proofs.lemmas.List.Sums.{sum_by-cons}
-use Rattle.cl_model.specs.declared.group.Group.{Group}
-use Rattle.cl_model.specs.declared.stimulus.StimulusKind.{StimulusKind}
-use Rattle.cl_model.specs.Groups.{no_group, group_at}
-use Rattle.cl_model.specs.Timing.{least_distance}
-use Rattle.cl_model.specs.Kinds.{is_timed, is_periodic}
-use Rattle.cl_runs.specs.Pattern.{first_least}
-use Rattle.cl_runs.specs.TaskTiming.{System, timing_at}
-use Rattle.cl_runs.specs.Chains.{JobChain, first_group, last_group, first_job, last_job}
-use Rattle.cl_runs.specs.RunChains.{ArrivesAt, ideal_moments}
-use Rattle.cl_runs.specs.SameMoments.{HaveSameMoments}
+use Rattle.cl_model.specs.{declared.{group.Group.Group, stimulus.StimulusKind.StimulusKind}, Groups.{no_group, group_at}, Timing.least_distance, Kinds.{is_timed, is_periodic}}
+use Rattle.cl_runs.specs.{Pattern.first_least, TaskTiming.{System, timing_at}, Chains.{JobChain, first_group, last_group, first_job, last_job}, RunChains.{ArrivesAt, ideal_moments}, SameMoments.HaveSameMoments}
 use Rattle.cl_runs.proofs.SameMoments.{first_reads, last_reads, forward_also, age_also, reduced_also}
-use Rattle.cl_exact.specs.declared.limit.TheConstants.{MOST_FIRST_JOBS}
-use Rattle.cl_exact.specs.declared.witness.Witness.{Witness}
-use Rattle.cl_exact.specs.TimedPeriodic.{are_timed_periodic}
-use Rattle.cl_exact.specs.Hyperperiod.{period_of, IsMultipleOfPeriods, IsHyperperiod, hyper_limit, IsWithinLimit, IsPastLimit}
-use Rattle.cl_exact.specs.ExactLengths.{HaveAllBegun, start_up, IsSteadyForward, IsSteadyAge, IsSteadyReduced, IsExact, Witnesses, AreExactLengths}
-use Rattle.cl_exact.specs.Rhythms.{Rhythm, rhythm_of, rhythms}
+use Rattle.cl_exact.specs.{declared.{limit.TheConstants.MOST_FIRST_JOBS, witness.Witness.Witness}, TimedPeriodic.are_timed_periodic, Hyperperiod.{period_of, IsMultipleOfPeriods, IsHyperperiod, hyper_limit, IsWithinLimit, IsPastLimit}, ExactLengths.{HaveAllBegun, start_up, IsSteadyForward}}
+use Rattle.cl_exact.specs.{ExactLengths.{IsSteadyAge, IsSteadyReduced, IsExact, Witnesses, AreExactLengths}, Rhythms.{Rhythm, rhythm_of, rhythms}}
 
 -- a witness of one kind of chains is one of any other that has the same chains
 exact_also : (IsChain IsOther : JobChain → Type 0) (job_of : JobChain → ℕ) → ((chain : JobChain) → IsChain chain → IsOther chain)

@@ -3,11 +3,7 @@ use Rattle.std.proofs.Common.{◌≡◌, ℕ, ◌+◌, ◌-◌, ◌<◌, ◌≤�
 use Rattle.std.specs.Prelude.{slice_index, EachIndex}
 use Rattle.std.proofs.lemmas.Bool.{cases_lt}
 use Rattle.cl_lanes.specs.Gaps.{HasGap, IsFirst}
-use Rattle.cl_exact.specs.declared.beat.Beat.{Beat}
-use Rattle.cl_exact.specs.declared.scan.Greatest.{Greatest}
-use Rattle.cl_exact.specs.Inner.Beats.{AreBeats, reaction_of}
-use Rattle.cl_exact.specs.Inner.Blocks.{AreStarts, AreEnds}
-use Rattle.cl_exact.specs.Inner.Scans.{IsGreatestOf, NoneHas, IsFirstWith}
+use Rattle.cl_exact.specs.{declared.{beat.Beat.Beat, scan.Greatest.Greatest}, Inner.{Beats.{AreBeats, reaction_of}, Blocks.{AreStarts, AreEnds}, Scans.{IsGreatestOf, NoneHas, IsFirstWith}}}
 use Rattle.cl_exact.proofs.ForwardJobs.{starts_before_end}
 
 module _ (beats : List Beat) (are : AreBeats beats) (first : ℕ) (ends starts : List ℕ)
@@ -63,20 +59,6 @@ none_more beats first done size reaction before here job from below has =
       | inl earlier ↦ before job from earlier has
       | inr later ↦ here job later (omega (arith, below)) has
     ]
-
--- the first in a block, after blocks without the reaction
-pub first_after : (beats : List Beat) (first done size count reaction job : ℕ) → NoneHas beats first done reaction → done + size ≤ count
-    → IsFirstWith beats (first + done) size reaction job → IsFirstWith beats first count reaction job
-first_after beats first done size count reaction job before room is = record {
-  not_before = omega (arith, is.not_before);
-  within = omega (arith, is.within, room);
-  has = is.has;
-  first_of = λ earlier from less has.
-      elim (cases_lt earlier (first + done)) [
-        | inl early ↦ before earlier from early has
-        | inr late ↦ is.first_of earlier late less has
-      ];
-}
 
 -- a block without a greater reaction changes nothing
 pub greatest_stays : (beats : List Beat) (first done size : ℕ) (so_far : Greatest) → 0 < done → IsGreatestOf beats first done so_far

@@ -3,14 +3,9 @@
 use Rattle.std.proofs.Common.{◌≡◌, ℕ, zero, suc, ◌+◌, ◌-◌, ◌*◌, ◌/◌, ◌%◌, ◌<◌, ◌≤◌, List, length, sym, ap, ◌∙◌, arith, inl, inr}
 use Rattle.std.proofs.lemmas.Bool.{cases_lt}
 use Rattle.std.proofs.Math.Nat.{div-mul_cancel, mul-le-mul_right}
-use Rattle.cl_exact.specs.declared.beat.Beat.{Beat}
-use Rattle.cl_exact.specs.declared.scan.Greatest.{Greatest}
-use Rattle.cl_exact.specs.Inner.Beats.{AreBeats, beat_in, read_at, write_at, first_reader, forward_job, forward_write, forward_start, forward_end, reaction_of}
-use Rattle.cl_exact.specs.Inner.Periods.{IsMultipleOfFirst}
-use Rattle.cl_exact.specs.Inner.Scans.{IsGreatestOf}
-use Rattle.cl_exact.specs.Inner.Found.{IsComplete, IsGreatestReaction}
-use Rattle.cl_exact.proofs.BeatFacts.{reads_rise_back, reader_is, reader_after, reader_least, some_period, last_place}
-use Rattle.cl_exact.proofs.ForwardJobs.{jobs_rise}
+use Rattle.cl_exact.specs.{declared.{beat.Beat.Beat, scan.Greatest.Greatest}, Inner.{Beats.{AreBeats, beat_in, read_at, write_at, first_reader, forward_job, forward_write, forward_start, forward_end, reaction_of}, Periods.IsMultipleOfFirst, Scans.IsGreatestOf, Found.IsComplete}}
+use Rattle.cl_exact.specs.Inner.Found.{IsGreatestReaction}
+use Rattle.cl_exact.proofs.{BeatFacts.{reads_rise_back, reader_is, reader_after, reader_least, some_period, last_place}, ForwardJobs.jobs_rise}
 
 -- a later moment by so many periods has a first reader that is so many jobs later, but for the very first
 reader_shifts : (beat : Beat) (t turns ticks : ℕ) → 1 ≤ beat.period → turns * beat.period ≡ ticks → 1 ≤ first_reader beat t

@@ -1,20 +1,10 @@
 -- Groups whose tasks are all timed and periodic are within the limit, with exact lengths, or past it.
 use Rattle.std.proofs.Common.{◌≡◌, ◌⊎◌, ℕ, ◌<◌, true, List, length, inl, inr, arith}
 use Rattle.std.proofs.lemmas.Bool.{cases_lt}
-use Rattle.cl_model.specs.declared.group.Group.{Group}
-use Rattle.cl_model.specs.declared.model.SystemModel.{SystemModel}
-use Rattle.cl_model.specs.Groups.{groups_at}
-use Rattle.cl_model.specs.Validity.{IsValid}
-use Rattle.cl_runs.specs.TaskTiming.{System}
-use Rattle.cl_runs.specs.SystemOf.{system_of}
-use Rattle.cl_exact.specs.declared.beat.Beat.{Beat}
-use Rattle.cl_exact.specs.TimedPeriodic.{is_timed_periodic_chain}
-use Rattle.cl_exact.specs.Hyperperiod.{hyper_limit, IsWithinLimit, IsPastLimit}
-use Rattle.cl_exact.specs.ExactLengths.{Witnesses, AreExactLengths}
-use Rattle.cl_exact.specs.Inner.Beats.{AreBeatsOf}
-use Rattle.cl_exact.proofs.PeriodFacts.{least_of_none, has_least, is_hyperperiod}
-use Rattle.cl_exact.proofs.ModelBeats.{AreTimedGroups, timed_chain}
-use Rattle.cl_exact.proofs.ModelExact.{has_beats, groups_have_lengths}
+use Rattle.cl_model.specs.{declared.{group.Group.Group, model.SystemModel.SystemModel}, Groups.groups_at, Validity.IsValid}
+use Rattle.cl_runs.specs.{TaskTiming.System, SystemOf.system_of}
+use Rattle.cl_exact.specs.{declared.beat.Beat.Beat, TimedPeriodic.is_timed_periodic_chain, Hyperperiod.{hyper_limit, IsWithinLimit, IsPastLimit}, ExactLengths.{Witnesses, AreExactLengths}, Inner.Beats.AreBeatsOf}
+use Rattle.cl_exact.proofs.{PeriodFacts.{least_of_none, has_least, is_hyperperiod}, ModelBeats.{AreTimedGroups, timed_chain}, ModelExact.{has_beats, groups_have_lengths}}
 
 -- groups of these beats are within the limit or past it
 limit_of_beats : (system : System) (groups : List Group) (beats : List Beat) → AreBeatsOf system groups beats

@@ -2,12 +2,8 @@
 use Rattle.std.proofs.Common.{◌≡◌, ℕ, zero, suc, ◌+◌, ◌-◌, ◌*◌, ◌≤◌, List, length, take, take_all, ap, arith, inl, inr}
 use Rattle.std.proofs.lemmas.Bool.{cases_lt}
 use Rattle.std.proofs.lemmas.List.Sums.{sum_by_more}
-use Rattle.cl_exact.specs.declared.beat.Beat.{Beat}
-use Rattle.cl_exact.specs.Inner.Beats.{AreBeats, no_beat, beat_in, read_at, first_reader, forward_job}
-use Rattle.cl_exact.specs.Inner.Walks.{start_of, start_up_of, IsLatestSecond}
-use Rattle.cl_exact.specs.Inner.Found.{last_beat, IsComplete}
-use Rattle.cl_exact.proofs.BeatFacts.{reader_after, reader_soon, last_place}
-use Rattle.cl_exact.proofs.ForwardJobs.{HOP, reads_after}
+use Rattle.cl_exact.specs.{declared.beat.Beat.Beat, Inner.{Beats.{AreBeats, no_beat, beat_in, read_at, first_reader, forward_job}, Walks.{start_of, start_up_of, IsLatestSecond}, Found.{last_beat, IsComplete}}}
+use Rattle.cl_exact.proofs.{BeatFacts.{reader_after, reader_soon, last_place}, ForwardJobs.{HOP, reads_after}}
 
 module _ (beats : List Beat) (are : AreBeats beats) where
   early_sum : (count : ℕ) → count ≤ length beats → start_up_of (take count beats) ≤ count * HOP

@@ -4,27 +4,12 @@ use Rattle.std.specs.Int.{div_ceil}
 use Rattle.std.proofs.lemmas.Bool.{cases_lt}
 use Rattle.std.proofs.lemmas.Grind.{div_ceil_times}
 use Rattle.std.proofs.Math.Nat.{mul-le-mul_right}
-use Rattle.cl_model.specs.declared.group.Group.{Group}
-use Rattle.cl_model.specs.declared.model.SystemModel.{SystemModel}
-use Rattle.cl_model.specs.Groups.{group_at, groups_at}
-use Rattle.cl_model.specs.Timing.{least_distance}
-use Rattle.cl_model.specs.Validity.{IsValid}
-use Rattle.cl_runs.specs.Pattern.{first_least}
-use Rattle.cl_runs.specs.TaskTiming.{System, timing_at}
-use Rattle.cl_runs.specs.SystemOf.{system_of}
-use Rattle.cl_runs.specs.Chains.{JobChain, last_group, first_job, last_job, IsForwardChain, IsAgeChain, IsReducedChain}
-use Rattle.cl_runs.specs.RunChains.{ideal_moments}
+use Rattle.cl_model.specs.{declared.{group.Group.Group, model.SystemModel.SystemModel}, Groups.{group_at, groups_at}, Timing.least_distance, Validity.IsValid}
+use Rattle.cl_runs.specs.{Pattern.first_least, TaskTiming.{System, timing_at}, SystemOf.system_of, Chains.{JobChain, last_group, first_job, last_job, IsForwardChain, IsAgeChain, IsReducedChain}, RunChains.ideal_moments}
 use Rattle.cl_model.proofs.Greatest.{greatest_least, greatest_within}
-use Rattle.cl_exact.specs.declared.beat.Beat.{Beat}
-use Rattle.cl_exact.specs.TimedPeriodic.{is_timed_periodic_chain}
-use Rattle.cl_exact.specs.Hyperperiod.{period_of}
-use Rattle.cl_exact.specs.ExactLengths.{second_arrival, HaveAllBegun, start_up, IsSteadyForward, IsSteadyAge, IsSteadyReduced}
-use Rattle.cl_exact.specs.SteadyJobs.{first_arrival_from, all_begun, first_steady_job, last_steady_job}
-use Rattle.cl_exact.specs.Inner.Beats.{AreBeatsOf, beat_in, read_at}
-use Rattle.cl_exact.specs.Inner.Found.{last_beat}
-use Rattle.cl_exact.proofs.FixedMoments.{reads_at, reads_is, last_reads, last_reads_is}
-use Rattle.cl_exact.proofs.ModelBeats.{timed_chain}
-use Rattle.cl_exact.proofs.ModelExact.{has_beats}
+use Rattle.cl_exact.specs.{declared.beat.Beat.Beat, TimedPeriodic.is_timed_periodic_chain, Hyperperiod.period_of, ExactLengths.{second_arrival, HaveAllBegun, start_up, IsSteadyForward, IsSteadyAge, IsSteadyReduced}, SteadyJobs.{first_arrival_from, all_begun, first_steady_job}}
+use Rattle.cl_exact.specs.{SteadyJobs.last_steady_job, Inner.{Beats.{AreBeatsOf, beat_in, read_at}, Found.last_beat}}
+use Rattle.cl_exact.proofs.{FixedMoments.{reads_at, reads_is, last_reads, last_reads_is}, ModelBeats.timed_chain, ModelExact.has_beats}
 
 -- a number over a divisor, rounded up, is at most another exactly where the number is at most its product
 ceil_within : (n d k : ℕ) → 1 ≤ d → (n ≤ k * d) ↔ (div_ceil n d ≤ k)

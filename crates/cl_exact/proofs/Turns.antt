@@ -1,29 +1,12 @@
 -- Each forward chain that counts has the length of one in the first hyperperiod of them.
 use Rattle.std.proofs.Common.{◌≡◌, ℕ, suc, ◌+◌, ◌-◌, ◌*◌, ◌%◌, ◌<◌, ◌≤◌, true, List, length, refl, sym, ap, subst, ◌∙◌, arith}
 use Rattle.std.specs.Int.{◌∣◌}
-use Rattle.cl_model.specs.declared.model.SystemModel.{SystemModel}
-use Rattle.cl_model.specs.declared.group.Group.{Group}
-use Rattle.cl_model.specs.Groups.{no_group, groups_at}
-use Rattle.cl_model.specs.Validity.{IsValid}
-use Rattle.cl_runs.specs.TaskTiming.{System}
-use Rattle.cl_runs.specs.SystemOf.{system_of}
-use Rattle.cl_runs.specs.Chains.{JobChain, first_job}
-use Rattle.cl_exact.specs.declared.beat.Beat.{Beat}
-use Rattle.cl_exact.specs.TimedPeriodic.{is_timed_periodic_chain}
-use Rattle.cl_exact.specs.Hyperperiod.{IsMultipleOfPeriods}
-use Rattle.cl_exact.specs.ExactLengths.{IsSteadyForward}
-use Rattle.cl_exact.specs.Turns.{HasEarlyTwin}
-use Rattle.cl_exact.specs.Inner.Beats.{AreBeatsOf, beat_in, read_at, first_reader, forward_start, forward_end, reaction_of}
+use Rattle.cl_model.specs.{declared.{model.SystemModel.SystemModel, group.Group.Group}, Groups.{no_group, groups_at}, Validity.IsValid}
+use Rattle.cl_runs.specs.{TaskTiming.System, SystemOf.system_of, Chains.{JobChain, first_job}}
+use Rattle.cl_exact.specs.{declared.beat.Beat.Beat, TimedPeriodic.is_timed_periodic_chain, Hyperperiod.IsMultipleOfPeriods, ExactLengths.IsSteadyForward, Turns.HasEarlyTwin, Inner.Beats.{AreBeatsOf, beat_in, read_at, first_reader, forward_start, forward_end, reaction_of}}
 use Rattle.cl_exact.specs.Inner.Periods.{IsMultipleOfFirst}
-use Rattle.cl_exact.proofs.BeatFacts.{reads_rise}
-use Rattle.cl_exact.proofs.PeriodFacts.{period_is}
-use Rattle.cl_exact.proofs.Shifts.{turns_of, whole_turns, complete_rises, same_turn, rest_below}
-use Rattle.cl_exact.proofs.StartUps.{steady_late, begun_complete}
-use Rattle.cl_exact.proofs.FixedMoments.{reads_at, reads_is, forward_length, forward_made}
-use Rattle.cl_exact.proofs.FoundExact.{begun, steady_first}
-use Rattle.cl_exact.proofs.Existence.{has_forward, has_latest}
-use Rattle.cl_exact.proofs.ModelBeats.{timed_chain}
-use Rattle.cl_exact.proofs.ModelExact.{has_beats}
+use Rattle.cl_exact.proofs.{BeatFacts.reads_rise, PeriodFacts.period_is, Shifts.{turns_of, whole_turns, complete_rises, same_turn, rest_below}, StartUps.{steady_late, begun_complete}, FixedMoments.{reads_at, reads_is, forward_length, forward_made}, FoundExact.{begun, steady_first}}
+use Rattle.cl_exact.proofs.{Existence.{has_forward, has_latest}, ModelBeats.timed_chain, ModelExact.has_beats}
 
 -- a common multiple of the periods of the groups is one of those of the beats
 multiple_of_beats : (system : System) (groups : List Group) (beats : List Beat) (ticks : ℕ) → AreBeatsOf system groups beats

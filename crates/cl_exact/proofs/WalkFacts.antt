@@ -4,10 +4,7 @@ use Rattle.std.specs.Prelude.{slice_index}
 use Rattle.std.proofs.lemmas.Bool.{cases_lt}
 use Rattle.std.proofs.lemmas.List.{get_or-set_same, get_or-set_other, length-set, get_or-take, length-take-le}
 use Rattle.std.proofs.lemmas.List.Sums.{sum_by_more, sum_by-take-le}
-use Rattle.cl_exact.specs.declared.beat.Beat.{Beat}
-use Rattle.cl_exact.specs.Inner.Beats.{AreBeats, no_beat, beat_in, read_at, write_at, last_writer}
-use Rattle.cl_exact.specs.Inner.Blocks.{EARLY}
-use Rattle.cl_exact.specs.Inner.Walks.{IsLastWritingJob, IsBackwardWalk, start_of, start_up_of}
+use Rattle.cl_exact.specs.{declared.beat.Beat.Beat, Inner.{Beats.{AreBeats, no_beat, beat_in, read_at, write_at, last_writer}, Blocks.EARLY, Walks.{IsLastWritingJob, IsBackwardWalk, start_of, start_up_of}}}
 use Rattle.cl_exact.proofs.BeatFacts.{writer_before, writer_greatest, next_read}
 
 -- the last writer at or before a read

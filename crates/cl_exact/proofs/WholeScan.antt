@@ -1,18 +1,8 @@
 -- One hyperperiod of first jobs, from the first steady one on.
 use Rattle.std.proofs.Common.{◌≡◌, ℕ, ◌+◌, ◌*◌, ◌/◌, ◌<◌, ◌≤◌, List, arith}
-use Rattle.cl_exact.specs.declared.beat.Beat.{Beat}
-use Rattle.cl_exact.specs.declared.scan.Greatest.{Greatest}
-use Rattle.cl_exact.specs.declared.witness.Witness.{Witness}
-use Rattle.cl_exact.specs.Inner.Beats.{AreBeats, beat_in, read_at, write_at, first_reader, reaction_of}
-use Rattle.cl_exact.specs.Inner.Blocks.{EARLY, IsEarlyBlock}
-use Rattle.cl_exact.specs.Inner.Periods.{IsLeastMultiple}
-use Rattle.cl_exact.specs.Inner.Scans.{IsGreatestOf}
-use Rattle.cl_exact.specs.Inner.Walks.{IsLatestSecond}
+use Rattle.cl_exact.specs.{declared.{beat.Beat.Beat, scan.Greatest.Greatest, witness.Witness.Witness}, Inner.{Beats.{AreBeats, beat_in, read_at, write_at, first_reader, reaction_of}, Blocks.{EARLY, IsEarlyBlock}, Periods.IsLeastMultiple, Scans.IsGreatestOf, Walks.IsLatestSecond}}
 use Rattle.cl_exact.specs.Inner.Found.{MOST_HYPERPERIOD, last_beat, IsComplete, IsGreatestReaction, age_of, IsForwardWitness, IsAgeWitness}
-use Rattle.cl_exact.proofs.BeatFacts.{reads_rise}
-use Rattle.cl_exact.proofs.ReactionAge.{reads_before_last}
-use Rattle.cl_exact.proofs.Shifts.{whole_turns, some_turns, greatest_over_all}
-use Rattle.cl_exact.proofs.StartUps.{steady_late, steady_soon, begun_complete}
+use Rattle.cl_exact.proofs.{BeatFacts.reads_rise, ReactionAge.reads_before_last, Shifts.{whole_turns, some_turns, greatest_over_all}, StartUps.{steady_late, steady_soon, begun_complete}}
 
 module _ (beats : List Beat) (are : AreBeats beats) (ticks : ℕ) (least : IsLeastMultiple beats ticks) (few : ticks ≤ MOST_HYPERPERIOD)
     (first latest : ℕ) (is_latest : IsLatestSecond beats latest) (first_is : first ≡ first_reader (beat_in beats 0) latest) where

@@ -2,13 +2,8 @@
 -- moments, once all its tasks have begun. No hyperperiod plays a part in it. Times are in ticks.
 use Rattle.std.specs.Prelude.{◌≡◌, ℕ, ◌+◌, ◌≤◌, List, All, sum_by}
 use Rattle.cl_model.specs.declared.group.Group.{Group}
-use Rattle.cl_runs.specs.Pattern.{first_least}
-use Rattle.cl_runs.specs.TaskTiming.{System, timing_at}
-use Rattle.cl_runs.specs.Chains.{JobChain, chain_length, first_group, last_group, first_job, last_job, IsForwardChain, IsAgeChain, IsReducedChain}
-use Rattle.cl_runs.specs.RunChains.{ideal_moments}
-use Rattle.cl_runs.specs.Measured.{IsLongest}
-use Rattle.cl_exact.specs.declared.witness.Witness.{Witness}
-use Rattle.cl_exact.specs.Hyperperiod.{period_of}
+use Rattle.cl_runs.specs.{Pattern.first_least, TaskTiming.{System, timing_at}, Chains.{JobChain, chain_length, first_group, last_group, first_job, last_job, IsForwardChain, IsAgeChain, IsReducedChain}, RunChains.ideal_moments, Measured.IsLongest}
+use Rattle.cl_exact.specs.{declared.witness.Witness.Witness, Hyperperiod.period_of}
 
 -- when job 1 of the task of a group arrives: its offset and a period
 abbrev pub second_arrival : System → Group → ℕ

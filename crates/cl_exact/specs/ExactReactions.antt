@@ -2,9 +2,7 @@
 use Rattle.std.specs.Prelude.{◌≡◌, ℕ, ◌+◌, ◌<◌, true, Option, Some, None, List, length, take, slice_index_or}
 use Rattle.cl_model.specs.declared.group.Group.{Group}
 use Rattle.cl_runs.specs.TaskTiming.{System}
-use Rattle.cl_exact.specs.TimedPeriodic.{are_timed_periodic}
-use Rattle.cl_exact.specs.Hyperperiod.{IsWithinLimit}
-use Rattle.cl_exact.specs.ExactLengths.{Witnesses, AreExactLengths}
+use Rattle.cl_exact.specs.{TimedPeriodic.are_timed_periodic, Hyperperiod.IsWithinLimit, ExactLengths.{Witnesses, AreExactLengths}}
 
 -- the exact reaction of groups whose tasks are all timed and periodic, with their hyperperiod within their own limit
 pub record IsExactReaction (system : System) (groups : List Group) (reaction : ℕ) : Type 0 where

@@ -1,10 +1,8 @@
 -- How far exact lengths are sought: the hyperperiod of a chain, and the limit on it. Times are in ticks.
 use Rattle.std.specs.Prelude.{ℕ, ◌*◌, ◌<◌, ◌≤◌, List, All, min}
 use Rattle.std.specs.Int.{◌∣◌}
-use Rattle.cl_model.specs.declared.group.Group.{Group}
-use Rattle.cl_model.specs.Timing.{least_distance}
-use Rattle.cl_runs.specs.TaskTiming.{System, timing_at}
-use Rattle.cl_runs.specs.Chains.{first_group, last_group}
+use Rattle.cl_model.specs.{declared.group.Group.Group, Timing.least_distance}
+use Rattle.cl_runs.specs.{TaskTiming.{System, timing_at}, Chains.{first_group, last_group}}
 use Rattle.cl_exact.specs.declared.limit.TheConstants.{MOST_FIRST_JOBS}
 
 -- the period of the task of a group

@@ -1,8 +1,6 @@
 -- What the exact lengths of a chain depend on.
 use Rattle.std.specs.Prelude.{ℕ, List, map}
-use Rattle.cl_model.specs.declared.group.Group.{Group}
-use Rattle.cl_model.specs.declared.stimulus.StimulusKind.{StimulusKind}
-use Rattle.cl_model.specs.declared.task.AccessKind.{AccessKind}
+use Rattle.cl_model.specs.declared.{group.Group.Group, stimulus.StimulusKind.StimulusKind, task.AccessKind.AccessKind}
 use Rattle.cl_runs.specs.TaskTiming.{System, timing_at}
 
 -- how the jobs of a group arrive, how they access labels, and how long after their arrival they are due

@@ -1,16 +1,8 @@
 -- What exact lengths promise of legal runs, where no task of the chain is late. Times are in ticks.
 use Rattle.std.specs.Prelude.{◌≡◌, ℕ, ◌+◌, ◌<◌, ◌≤◌, ◌↔◌, true, List, length, All}
 use Rattle.cl_model.specs.declared.group.Group.{Group}
-use Rattle.cl_runs.specs.TaskTiming.{System, timing_at}
-use Rattle.cl_runs.specs.Run.{Run, jobs_of}
-use Rattle.cl_runs.specs.Legal.{IsLegal}
-use Rattle.cl_runs.specs.Chains.{Moments, JobChain, chain_length, last_group, IsForwardChain, IsAgeChain, IsReducedChain}
-use Rattle.cl_runs.specs.RunChains.{run_moments, ideal_moments}
-use Rattle.cl_runs.specs.Responses.{IsTimely}
-use Rattle.cl_exact.specs.TimedPeriodic.{are_timed_periodic}
-use Rattle.cl_exact.specs.Hyperperiod.{period_of}
-use Rattle.cl_exact.specs.ExactLengths.{chain_of, Witnesses}
-use Rattle.cl_exact.specs.declared.witness.Witness.{Witness}
+use Rattle.cl_runs.specs.{TaskTiming.{System, timing_at}, Run.{Run, jobs_of}, Legal.IsLegal, Chains.{Moments, JobChain, chain_length, last_group, IsForwardChain, IsAgeChain, IsReducedChain}, RunChains.{run_moments, ideal_moments}, Responses.IsTimely}
+use Rattle.cl_exact.specs.{TimedPeriodic.are_timed_periodic, Hyperperiod.period_of, ExactLengths.{chain_of, Witnesses}, declared.witness.Witness.Witness}
 
 -- ---- which chains
 

@@ -1,13 +1,9 @@
 -- From which jobs on chains count, as numbers. Times are in ticks.
 use Rattle.std.specs.Prelude.{ℕ, ◌-◌, List}
 use Rattle.std.specs.Int.{div_ceil}
-use Rattle.cl_model.specs.declared.group.Group.{Group}
-use Rattle.cl_model.specs.Holds.{greatest_by}
-use Rattle.cl_runs.specs.Pattern.{first_least}
-use Rattle.cl_runs.specs.TaskTiming.{System, timing_at}
-use Rattle.cl_runs.specs.Chains.{first_group, last_group}
-use Rattle.cl_exact.specs.Hyperperiod.{period_of}
-use Rattle.cl_exact.specs.ExactLengths.{second_arrival, start_up}
+use Rattle.cl_model.specs.{declared.group.Group.Group, Holds.greatest_by}
+use Rattle.cl_runs.specs.{Pattern.first_least, TaskTiming.{System, timing_at}, Chains.{first_group, last_group}}
+use Rattle.cl_exact.specs.{Hyperperiod.period_of, ExactLengths.{second_arrival, start_up}}
 
 -- the first job of a periodic group that arrives at or after a moment
 abbrev pub first_arrival_from : System → Group → (moment : ℕ) → ℕ

@@ -1,10 +1,8 @@
 -- How the exact lengths of a chain are tied to each other. Times are in ticks.
 use Rattle.std.specs.Prelude.{◌≡◌, ◌+◌, List}
 use Rattle.cl_model.specs.declared.group.Group.{Group}
-use Rattle.cl_runs.specs.TaskTiming.{System}
-use Rattle.cl_runs.specs.Chains.{last_group}
-use Rattle.cl_exact.specs.Hyperperiod.{period_of}
-use Rattle.cl_exact.specs.ExactLengths.{Witnesses, AreExactLengths}
+use Rattle.cl_runs.specs.{TaskTiming.System, Chains.last_group}
+use Rattle.cl_exact.specs.{Hyperperiod.period_of, ExactLengths.{Witnesses, AreExactLengths}}
 
 -- the reaction equals the age, and the reduced age is the age less the last period, with the same jobs
 pub record AreTied (system : System) (groups : List Group) (exact : Witnesses) : Type 0 where

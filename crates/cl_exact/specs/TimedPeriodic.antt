@@ -1,12 +1,8 @@
 -- Which chains have fixed moments: those whose tasks are all timed and periodic.
 use Rattle.std.specs.Prelude.{ℕ, Bool, ◌&&◌, List}
 use Rattle.std.specs.List.{list_all}
-use Rattle.cl_model.specs.declared.group.Group.{Group}
-use Rattle.cl_model.specs.declared.model.SystemModel.{SystemModel}
-use Rattle.cl_model.specs.Groups.{groups_at}
-use Rattle.cl_model.specs.Kinds.{is_timed, is_periodic}
-use Rattle.cl_runs.specs.TaskTiming.{Timing, System, timing_at}
-use Rattle.cl_runs.specs.SystemOf.{system_of}
+use Rattle.cl_model.specs.{declared.{group.Group.Group, model.SystemModel.SystemModel}, Groups.groups_at, Kinds.{is_timed, is_periodic}}
+use Rattle.cl_runs.specs.{TaskTiming.{Timing, System, timing_at}, SystemOf.system_of}
 
 -- whether a task is timed and periodic
 abbrev pub is_timed_periodic_task : Timing → Bool

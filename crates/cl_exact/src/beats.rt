@@ -1,13 +1,8 @@
 //! The beats of groups of a model. Times are in ticks.
 ghost use Rattle.std.specs.Prelude.{◌≡◌, true, false, ◌<◌, ◌≤◌, length, take, All};
-ghost use Rattle.cl_model.specs.declared.limits.TheConstants.{MOST_STEPS};
-ghost use Rattle.cl_model.specs.Groups.{IsGroupOf, group_at};
-ghost use Rattle.cl_model.specs.Validity.{IsValid};
-ghost use Rattle.cl_model.specs.Kinds.{is_timed, is_periodic};
-ghost use Rattle.cl_runs.specs.TaskTiming.{timing_at};
-ghost use Rattle.cl_runs.specs.SystemOf.{system_of};
-ghost use Rattle.cl_exact.specs.TimedPeriodic.{is_timed_periodic_task, are_timed_periodic, is_timed_periodic_chain};
-ghost use Rattle.cl_exact.specs.Inner.Beats.{IsBeat, IsBeatOf, AreBeatsOf};
+ghost use Rattle.cl_model.specs.{declared.limits.TheConstants.MOST_STEPS, Groups.{IsGroupOf, group_at}, Validity.IsValid, Kinds.{is_timed, is_periodic}};
+ghost use Rattle.cl_runs.specs.{TaskTiming.timing_at, SystemOf.system_of};
+ghost use Rattle.cl_exact.specs.{TimedPeriodic.{is_timed_periodic_task, are_timed_periodic, is_timed_periodic_chain}, Inner.Beats.{IsBeat, IsBeatOf, AreBeatsOf}};
 
 use crate::beat::Beat;
 use arrayvec::ArrayVec;

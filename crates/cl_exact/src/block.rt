@@ -1,7 +1,6 @@
 //! The job chains of many first jobs at once. Times are in ticks.
 ghost use Rattle.std.specs.Prelude.{◌+◌, ◌*◌, ◌^◌, ◌≤◌, ◌<◌, length};
-ghost use Rattle.cl_exact.specs.Inner.Beats.{AreBeats};
-ghost use Rattle.cl_exact.specs.Inner.Blocks.{AreSteps, AreWrites, AreStarts, AreEnds, IsEarlyBlock};
+ghost use Rattle.cl_exact.specs.Inner.{Beats.AreBeats, Blocks.{AreSteps, AreWrites, AreStarts, AreEnds, IsEarlyBlock}};
 
 use crate::beat::Beat;
 use crate::hop::hop;

@@ -1,20 +1,9 @@
 //! Exact lengths. Times are in ticks.
 ghost use Rattle.std.specs.Prelude.{◌≡◌, ℕ, ◌+◌, ◌-◌, ◌*◌, ◌<◌, ◌≤◌, true, List, length, All, IfOk, IfErr, OnOk, OnErr};
-ghost use Rattle.cl_model.specs.declared.group.Group.{Group};
-ghost use Rattle.cl_model.specs.declared.limits.TheConstants.{MOST_STEPS};
-ghost use Rattle.cl_model.specs.Groups.{groups_at, IsGroupOf};
-ghost use Rattle.cl_runs.specs.TaskTiming.{System};
-ghost use Rattle.cl_runs.specs.SystemOf.{system_of};
-ghost use Rattle.cl_exact.specs.TimedPeriodic.{are_timed_periodic, is_timed_periodic_chain};
-ghost use Rattle.cl_exact.specs.Hyperperiod.{hyper_limit, IsWithinLimit, IsPastLimit};
-ghost use Rattle.cl_exact.specs.ExactLengths.{AreExactLengths};
-ghost use Rattle.cl_exact.specs.Ties.{AreTied};
-ghost use Rattle.cl_exact.specs.RunPromises.{HaveResponses, AlwaysIdealUntilTheEnd, AreExactInRuns};
-ghost use Rattle.cl_exact.specs.Inner.Beats.{AreBeats, AreBeatsOf, beat_in, read_at};
-ghost use Rattle.cl_exact.specs.Inner.Blocks.{EARLY};
-ghost use Rattle.cl_exact.specs.Inner.Periods.{IsLeastMultiple};
-ghost use Rattle.cl_exact.specs.Inner.Walks.{start_up_of};
-ghost use Rattle.cl_exact.specs.Inner.Found.{MOST_HYPERPERIOD, last_beat, IsGreatestReaction, IsOldest, IsForwardWitness, IsAgeWitness, IsSameUpTo};
+ghost use Rattle.cl_model.specs.{declared.{group.Group.Group, limits.TheConstants.MOST_STEPS}, Groups.{groups_at, IsGroupOf}};
+ghost use Rattle.cl_runs.specs.{TaskTiming.System, SystemOf.system_of};
+ghost use Rattle.cl_exact.specs.{TimedPeriodic.{are_timed_periodic, is_timed_periodic_chain}, Hyperperiod.{hyper_limit, IsWithinLimit, IsPastLimit}, ExactLengths.AreExactLengths, Ties.AreTied, RunPromises.{HaveResponses, AlwaysIdealUntilTheEnd, AreExactInRuns}, Inner.Beats.AreBeats};
+ghost use Rattle.cl_exact.specs.Inner.{Beats.{AreBeatsOf, beat_in, read_at}, Blocks.EARLY, Periods.IsLeastMultiple, Walks.start_up_of, Found.{MOST_HYPERPERIOD, last_beat, IsGreatestReaction, IsOldest, IsForwardWitness, IsAgeWitness, IsSameUpTo}};
 
 use crate::beat::Beat;
 use crate::beats::beats_of;

@@ -3,9 +3,7 @@
 ghost use Rattle.std.specs.Prelude.{◌≡◌, ◌⊎◌, ℕ, ◌+◌, ◌≤◌, ◌<◌, length, slice_index, EachIndex, SomeIndex};
 ghost use Rattle.cl_lanes.specs.Gaps.{HasGap};
 ghost use Rattle.cl_model.specs.declared.limits.TheConstants.{MOST_STEPS};
-ghost use Rattle.cl_exact.specs.Inner.Beats.{AreBeats};
-ghost use Rattle.cl_exact.specs.Inner.Blocks.{IsEarlyBlock};
-ghost use Rattle.cl_exact.specs.Inner.Fronts.{AreGreatestTo};
+ghost use Rattle.cl_exact.specs.Inner.{Beats.AreBeats, Blocks.IsEarlyBlock, Fronts.AreGreatestTo};
 
 use crate::beat::Beat;
 use crate::block::{fill_starts, fill_writes};

@@ -1,16 +1,8 @@
 //! The exact reactions of the front parts of groups that follow each other. Times are in ticks.
 ghost use Rattle.std.specs.Prelude.{◌≡◌, ℕ, ◌+◌, ◌<◌, ◌≤◌, None, List, length, take, All, slice_index_or, IfSome, MatchOption};
-ghost use Rattle.cl_model.specs.declared.group.Group.{Group};
-ghost use Rattle.cl_model.specs.declared.limits.TheConstants.{MOST_STEPS};
-ghost use Rattle.cl_model.specs.Groups.{IsGroupOf};
-ghost use Rattle.cl_runs.specs.TaskTiming.{System};
-ghost use Rattle.cl_runs.specs.SystemOf.{system_of};
-ghost use Rattle.cl_exact.specs.Hyperperiod.{IsWithinLimit, IsPastLimit};
-ghost use Rattle.cl_exact.specs.ExactReactions.{AreFrontReactions};
-ghost use Rattle.cl_exact.specs.Inner.Beats.{AreBeats, AreBeatsOf};
-ghost use Rattle.cl_exact.specs.Inner.Periods.{IsLeastMultiple};
-ghost use Rattle.cl_exact.specs.Inner.Found.{MOST_HYPERPERIOD};
-ghost use Rattle.cl_exact.specs.Inner.Fronts.{IsGreatestSteady, IsReactionOfBeats, IsWidest, IsShared};
+ghost use Rattle.cl_model.specs.{declared.{group.Group.Group, limits.TheConstants.MOST_STEPS}, Groups.IsGroupOf};
+ghost use Rattle.cl_runs.specs.{TaskTiming.System, SystemOf.system_of};
+ghost use Rattle.cl_exact.specs.{Hyperperiod.{IsWithinLimit, IsPastLimit}, ExactReactions.AreFrontReactions, Inner.{Beats.{AreBeats, AreBeatsOf}, Periods.IsLeastMultiple, Found.MOST_HYPERPERIOD, Fronts.{IsGreatestSteady, IsReactionOfBeats, IsWidest, IsShared}}};
 
 use crate::beat::Beat;
 use crate::beats::{beats_of, timed_periodic_count};

@@ -1,7 +1,6 @@
 //! One hop of many job chains at once. Times are in ticks.
 ghost use Rattle.std.specs.Prelude.{◌≡◌, ℕ, ◌<◌, ◌≤◌, length, slice_index};
-ghost use Rattle.cl_exact.specs.Inner.Beats.{IsBeat, read_at, first_reader, hop_to};
-ghost use Rattle.cl_exact.specs.Inner.Blocks.{LATEST, AreRising, AreBefore, IsReadUpTo};
+ghost use Rattle.cl_exact.specs.Inner.{Beats.{IsBeat, read_at, first_reader, hop_to}, Blocks.{LATEST, AreRising, AreBefore, IsReadUpTo}};
 
 use crate::beat::Beat;
 

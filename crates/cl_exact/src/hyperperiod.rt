@@ -1,14 +1,8 @@
 //! The hyperperiod of a chain, up to its limit. Times are in ticks.
 ghost use Rattle.std.specs.Prelude.{◌≡◌, ◌↔◌, ℕ, ◌≤◌, ◌<◌, true, IsTrue, List, length, MatchOption};
-ghost use Rattle.cl_model.specs.declared.group.Group.{Group};
-ghost use Rattle.cl_model.specs.Groups.{groups_at};
-ghost use Rattle.cl_runs.specs.TaskTiming.{System};
-ghost use Rattle.cl_runs.specs.SystemOf.{system_of};
-ghost use Rattle.cl_exact.specs.TimedPeriodic.{is_timed_periodic_chain};
-ghost use Rattle.cl_exact.specs.Hyperperiod.{hyper_limit, IsWithinLimit};
-ghost use Rattle.cl_exact.specs.Inner.Beats.{AreBeats, AreBeatsOf};
-ghost use Rattle.cl_exact.specs.Inner.Periods.{IsLeastMultiple};
-ghost use Rattle.cl_exact.specs.Inner.Found.{MOST_HYPERPERIOD};
+ghost use Rattle.cl_model.specs.{declared.group.Group.Group, Groups.groups_at};
+ghost use Rattle.cl_runs.specs.{TaskTiming.System, SystemOf.system_of};
+ghost use Rattle.cl_exact.specs.{TimedPeriodic.is_timed_periodic_chain, Hyperperiod.{hyper_limit, IsWithinLimit}, Inner.{Beats.{AreBeats, AreBeatsOf}, Periods.IsLeastMultiple, Found.MOST_HYPERPERIOD}};
 
 use crate::beat::Beat;
 use crate::beats::beats_of;

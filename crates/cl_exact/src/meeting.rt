@@ -1,9 +1,7 @@
 //! Searches over the chains of many first jobs, which meet in the jobs of a slower group. Times are
 //! in ticks.
 ghost use Rattle.std.specs.Prelude.{◌≡◌, ℕ, ◌+◌, ◌≤◌, ◌<◌, length, MatchOption, IfSome};
-ghost use Rattle.cl_exact.specs.Inner.Beats.{AreBeats, beat_in, read_at, forward_job, reaction_of};
-ghost use Rattle.cl_exact.specs.Inner.Blocks.{EARLY, IsEarlyBlock};
-ghost use Rattle.cl_exact.specs.Inner.Scans.{IsGreatestOf, IsFirstWith, NoneHas, FallsUpTo};
+ghost use Rattle.cl_exact.specs.Inner.{Beats.{AreBeats, beat_in, read_at, forward_job, reaction_of}, Blocks.{EARLY, IsEarlyBlock}, Scans.{IsGreatestOf, IsFirstWith, NoneHas, FallsUpTo}};
 
 use crate::beat::Beat;
 use crate::scan::{Greatest, first_in_blocks, greatest_in_blocks};

@@ -1,8 +1,6 @@
 //! Searches over the chains of many first jobs, in blocks. Times are in ticks.
 ghost use Rattle.std.specs.Prelude.{◌≡◌, ◌+◌, ◌≤◌, ◌<◌, length, MatchOption};
-ghost use Rattle.cl_exact.specs.Inner.Beats.{AreBeats};
-ghost use Rattle.cl_exact.specs.Inner.Blocks.{IsEarlyBlock};
-ghost use Rattle.cl_exact.specs.Inner.Scans.{IsGreatestOf, IsFirstWith, NoneHas};
+ghost use Rattle.cl_exact.specs.Inner.{Beats.AreBeats, Blocks.IsEarlyBlock, Scans.{IsGreatestOf, IsFirstWith, NoneHas}};
 
 use crate::beat::Beat;
 use crate::block::{fill_ends, fill_starts};

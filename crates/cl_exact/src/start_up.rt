@@ -1,7 +1,6 @@
 //! The jobs from which on all tasks of a chain have begun. Times are in ticks.
 ghost use Rattle.std.specs.Prelude.{◌≡◌, ℕ, ◌-◌, length};
-ghost use Rattle.cl_exact.specs.Inner.Beats.{AreBeats, beat_in, first_reader};
-ghost use Rattle.cl_exact.specs.Inner.Walks.{start_up_of, IsLatestSecond};
+ghost use Rattle.cl_exact.specs.Inner.{Beats.{AreBeats, beat_in, first_reader}, Walks.{start_up_of, IsLatestSecond}};
 
 use crate::beat::Beat;
 

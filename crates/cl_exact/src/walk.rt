@@ -1,9 +1,6 @@
 //! Job chains from one group to the next. Times are in ticks.
 ghost use Rattle.std.specs.Prelude.{◌≡◌, ◌≤◌, length};
-ghost use Rattle.cl_exact.specs.Inner.Beats.{AreBeats, beat_in, read_at};
-ghost use Rattle.cl_exact.specs.Inner.Blocks.{EARLY};
-ghost use Rattle.cl_exact.specs.Inner.Walks.{IsForwardWalk, IsBackwardWalk, start_up_of};
-ghost use Rattle.cl_exact.specs.Inner.Found.{last_beat};
+ghost use Rattle.cl_exact.specs.Inner.{Beats.{AreBeats, beat_in, read_at}, Blocks.EARLY, Walks.{IsForwardWalk, IsBackwardWalk, start_up_of}, Found.last_beat};
 
 use crate::beat::Beat;
 use crate::job_numbers::JobNumbers;

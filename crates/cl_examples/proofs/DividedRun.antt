@@ -1,16 +1,10 @@
 -- Where B's runnable isn't whole, the run in which A interrupts B is legal.
 use Rattle.std.proofs.Common.{◌≡◌, ℕ, ◌<◌, ◌≤◌, true, inr, Some, length, refl, sym, arith}
 use Rattle.std.proofs.lemmas.List.Elements.{All-from_recursion}
-use Rattle.cl_runs.specs.TaskTiming.{timing_at, range_at}
-use Rattle.cl_runs.specs.Table.{HasTimes, AreLawfulJobs, IsLawful, table_jobs}
-use Rattle.cl_runs.specs.Run.{jobs_of, core_entries, entry_at, executed}
-use Rattle.cl_runs.specs.Held.{IsHeld}
-use Rattle.cl_runs.specs.Legal.{released, IsNoneHeld, IsScheduled, IsLegal}
+use Rattle.cl_runs.specs.{TaskTiming.{timing_at, range_at}, Table.{HasTimes, AreLawfulJobs, IsLawful, table_jobs}, Run.{jobs_of, core_entries, entry_at, executed}, Held.IsHeld, Legal.{released, IsNoneHeld, IsScheduled, IsLegal}}
 use Rattle.cl_runs.proofs.Filling.{IsFilled, legal_from}
 use Rattle.cl_examples.specs.WholeExample.{divided_b, one_core_divided, one_core_table, broken_run}
-use Rattle.cl_examples.proofs.ExampleFacts.{both}
-use Rattle.cl_examples.proofs.ExampleRun.{not_whole}
-use Rattle.cl_examples.proofs.WholeRun.{lawful_a, one, nine}
+use Rattle.cl_examples.proofs.{ExampleFacts.both, ExampleRun.not_whole, WholeRun.{lawful_a, one, nine}}
 
 tasks_are : length one_core_divided.tasks ≡ 2
 unfolding one_core_divided

@@ -2,14 +2,8 @@
 use Rattle.std.proofs.Common.{◌≡◌, refl, sym, ap, subst, ℕ, zero, suc, ◌+◌, ◌*◌, ◌<◌, ◌≤◌, List, [], ◌∷◌, ◌++◌, length, get_or, arith}
 use Rattle.std.specs.Prelude.{All, Result, Ok, Err, Some}
 use Rattle.std.specs.List.Sorted.{IsStrictlyIncreasing}
-use Rattle.cl_model.specs.declared.model.SystemModel.{SystemModel}
-use Rattle.cl_model.specs.declared.refusal.Refusal.{Refusal}
-use Rattle.cl_model.specs.ByNumber.{task_at, task_named}
-use Rattle.cl_model.specs.Refusals.{answer}
-use Rattle.cl_model.specs.Validity.{refusals_of}
-use Rattle.cl_edit.specs.declared.edit.Edit.{Edit}
-use Rattle.cl_edit.specs.Changing.{change_of}
-use Rattle.cl_edit.specs.Edited.{edited, edit_checks, with_edit}
+use Rattle.cl_model.specs.{declared.{model.SystemModel.SystemModel, refusal.Refusal.Refusal}, ByNumber.{task_at, task_named}, Refusals.answer, Validity.refusals_of}
+use Rattle.cl_edit.specs.{declared.edit.Edit.Edit, Changing.change_of, Edited.{edited, edit_checks, with_edit}}
 use Rattle.cl_analyse.specs.Headline.{question_at}
 use Rattle.cl_runs.specs.SystemOf.{system_of}
 use Rattle.cl_resp.specs.Question.{question_of, block_of, longest_hold, greatest_execution}

@@ -3,14 +3,10 @@ use Rattle.std.proofs.Common.{◌≡◌, ℕ, zero, suc, ◌+◌, ◌-◌, ◌*�
 use Rattle.std.specs.Prelude.{slice_index, All}
 use Rattle.std.proofs.lemmas.Bool.{cases_eq}
 use Rattle.cl_model.specs.Groups.{group_at}
-use Rattle.cl_runs.specs.Chains.{HasWritten, IsEarliestReader, IsLatestWriter, JobChain, chain_length, first_job, last_job, IsForwardChain, AreBackwardLinks, IsAgeChain, IsReducedChain}
-use Rattle.cl_runs.specs.RunChains.{run_moments}
-use Rattle.cl_runs.specs.Measured.{IsLongest, IsCountOf, IsMeasured}
+use Rattle.cl_runs.specs.{Chains.{HasWritten, IsEarliestReader, IsLatestWriter, JobChain, chain_length, first_job, last_job, IsForwardChain, AreBackwardLinks, IsAgeChain, IsReducedChain}, RunChains.run_moments, Measured.{IsLongest, IsCountOf, IsMeasured}}
 use Rattle.cl_examples.specs.Examples.{two_tasks, two_tasks_run, two_tasks_moments, from_a_to_b, two_job_chain, two_tasks_measured}
-use Rattle.cl_runs.proofs.ChainsUnique.{forward_once, age_once, reduced_once}
-use Rattle.cl_runs.proofs.OrderedMoments.{run_unique}
-use Rattle.cl_examples.proofs.ExampleFacts.{both}
-use Rattle.cl_examples.proofs.ExampleRun.{reads_a, writes_a, reads_b, writes_b, write_of_a, read_of_b, write_of_b}
+use Rattle.cl_runs.proofs.{ChainsUnique.{forward_once, age_once, reduced_once}, OrderedMoments.run_unique}
+use Rattle.cl_examples.proofs.{ExampleFacts.both, ExampleRun.{reads_a, writes_a, reads_b, writes_b, write_of_a, read_of_b, write_of_b}}
 
 -- ---- forward
 

@@ -2,10 +2,8 @@
 use Rattle.std.proofs.Common.{ℕ, zero, suc, ◌<◌, ◌≤◌, Bool, [], ◌∷◌, arith}
 use Rattle.std.specs.Prelude.{All}
 use Rattle.std.proofs.lemmas.List.Elements.{All-from_recursion}
-use Rattle.cl_model.specs.declared.stimulus.StimulusKind.TheVariants.{Periodic}
-use Rattle.cl_model.specs.declared.task.AccessKind.{AccessKind}
-use Rattle.cl_runs.specs.Table.{HasTimes, AreLawfulJobs}
-use Rattle.cl_runs.specs.TaskTiming.{TimeRange, Timing, IsSoundTask}
+use Rattle.cl_model.specs.declared.{stimulus.StimulusKind.TheVariants.Periodic, task.AccessKind.AccessKind}
+use Rattle.cl_runs.specs.{Table.{HasTimes, AreLawfulJobs}, TaskTiming.{TimeRange, Timing, IsSoundTask}}
 use Rattle.cl_examples.specs.Examples.{sporadic_task, two_jobs}
 
 -- what holds of 0 and of 1 holds of each number below 2

@@ -5,18 +5,11 @@ use Rattle.std.proofs.lemmas.List.Elements.{All-from_recursion}
 use Rattle.std.proofs.lemmas.Bool.{cond_both, ltb-true, ltb-false}
 use Rattle.std.proofs.lemmas.List.FromFn.{get_or-map-range_with_len}
 use Rattle.cl_model.specs.declared.task.AccessKind.TheVariants.{Implicit}
-use Rattle.cl_runs.specs.TaskTiming.{TimeRange, timing_at, range_at, no_range, IsSoundTask, IsSound}
-use Rattle.cl_runs.specs.Table.{job_at, table_jobs, HasTimes, AreLawfulJobs, IsLawful}
-use Rattle.cl_runs.specs.Run.{jobs_of, core_entries, entry_at, executed, IsEntryOf, IsInForm}
-use Rattle.cl_runs.specs.Legal.{released, IsNoneHeld, IsScheduled, IsLegal}
-use Rattle.cl_runs.specs.Held.{IsHeld}
-use Rattle.cl_runs.specs.Work.{work_before}
-use Rattle.cl_runs.specs.Moments.{Starts, Finishes, Reads, Writes}
+use Rattle.cl_runs.specs.{TaskTiming.{TimeRange, timing_at, range_at, no_range, IsSoundTask, IsSound}, Table.{job_at, table_jobs, HasTimes, AreLawfulJobs, IsLawful}, Run.{jobs_of, core_entries, entry_at, executed, IsEntryOf, IsInForm}, Legal.{released, IsNoneHeld, IsScheduled, IsLegal}}
+use Rattle.cl_runs.specs.{Held.IsHeld, Work.work_before, Moments.{Starts, Finishes, Reads, Writes}}
 use Rattle.cl_examples.specs.Examples.{task_a, task_b, two_tasks, jobs_of_a, jobs_of_b, table_with, two_tasks_run}
 use Rattle.cl_examples.proofs.ExampleFacts.{both, plain_task_sound}
-use Rattle.cl_runs.proofs.Climbing.{climb_lt}
-use Rattle.cl_runs.proofs.Executed.{executed_climbs}
-use Rattle.cl_runs.proofs.MomentFacts.{reads_once, writes_once}
+use Rattle.cl_runs.proofs.{Climbing.climb_lt, Executed.executed_climbs, MomentFacts.{reads_once, writes_once}}
 
 -- ---- the system
 

@@ -2,10 +2,7 @@
 use Rattle.std.proofs.Common.{◌≡◌, refl}
 use Rattle.cl_model.specs.Groups.{groups_of}
 use Rattle.cl_runs.specs.SystemOf.{system_of}
-use Rattle.cl_examples.specs.Examples.{two_tasks, from_a_to_b}
-use Rattle.cl_examples.specs.WholeExample.{one_core}
-use Rattle.cl_examples.specs.WholeModel.{one_core_model}
-use Rattle.cl_examples.specs.ExampleModel.{chain_ab, two_tasks_model}
+use Rattle.cl_examples.specs.{Examples.{two_tasks, from_a_to_b}, WholeExample.one_core, WholeModel.one_core_model, ExampleModel.{chain_ab, two_tasks_model}}
 
 pub model_system : system_of two_tasks_model ≡ two_tasks
 unfolding system_of two_tasks two_tasks_model

@@ -4,18 +4,12 @@ use Rattle.std.proofs.Common.{◌≡◌, ℕ, suc, ◌+◌, ◌-◌, ◌*◌, �
 use Rattle.std.specs.Prelude.{slice_index}
 use Rattle.std.proofs.lemmas.Bool.{cases_lt}
 use Rattle.std.proofs.lemmas.List.Elements.{All-from_recursion}
-use Rattle.cl_model.specs.declared.group.Group.{Group}
-use Rattle.cl_model.specs.Groups.{no_group, group_at}
-use Rattle.cl_runs.specs.Run.{Run}
-use Rattle.cl_runs.specs.Legal.{IsLegal}
-use Rattle.cl_runs.specs.Chains.{Moments, HasWritten, IsEarliestReader, IsLatestWriter, JobChain, first_job, last_job, IsForwardChain, AreBackwardLinks, IsAgeChain, IsReducedChain}
-use Rattle.cl_runs.specs.RunChains.{run_moments, ideal_moments}
+use Rattle.cl_model.specs.{declared.group.Group.Group, Groups.{no_group, group_at}}
+use Rattle.cl_runs.specs.{Run.Run, Legal.IsLegal, Chains.{Moments, HasWritten, IsEarliestReader, IsLatestWriter, JobChain, first_job, last_job, IsForwardChain, AreBackwardLinks, IsAgeChain, IsReducedChain}, RunChains.{run_moments, ideal_moments}}
 use Rattle.cl_exact.specs.ExactLengths.{second_arrival, HaveAllBegun, start_up, AreExactLengths}
 use Rattle.cl_exact.proofs.RunExact.{chains_until_the_end}
-use Rattle.cl_examples.specs.Examples.{from_a_to_b, two_job_chain}
-use Rattle.cl_examples.specs.TimedExample.{timed_tasks, timed_lengths}
-use Rattle.cl_examples.proofs.ExampleFacts.{both}
-use Rattle.cl_examples.proofs.TimedTasks.{timed_sound, timed_settled}
+use Rattle.cl_examples.specs.{Examples.{from_a_to_b, two_job_chain}, TimedExample.{timed_tasks, timed_lengths}}
+use Rattle.cl_examples.proofs.{ExampleFacts.both, TimedTasks.{timed_sound, timed_settled}}
 
 -- ---- moments
 

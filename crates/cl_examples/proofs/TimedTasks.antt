@@ -1,20 +1,12 @@
 -- The two timed tasks: their system is that of a model, sound, and neither is late.
 use Rattle.std.proofs.Common.{◌≡◌, ℕ, false, ◌<◌, refl, sym, ◌∙◌, arith}
 use Rattle.std.proofs.lemmas.List.Elements.{All-from_recursion}
-use Rattle.cl_model.specs.declared.group.Group.{Group}
-use Rattle.cl_model.specs.Groups.{groups_of}
-use Rattle.cl_model.specs.declared.task.AccessKind.TheVariants.{Timed}
-use Rattle.cl_runs.specs.TaskTiming.{timing_at, IsSoundTask, IsSound}
-use Rattle.cl_runs.specs.SystemOf.{system_of}
-use Rattle.cl_resp.specs.Question.{greatest_execution, longest_hold, block_of, question_of}
-use Rattle.cl_resp.specs.Response.{demand, busy_window, IsSettled}
+use Rattle.cl_model.specs.{declared.{group.Group.Group, task.AccessKind.TheVariants.Timed}, Groups.groups_of}
+use Rattle.cl_runs.specs.{TaskTiming.{timing_at, IsSoundTask, IsSound}, SystemOf.system_of}
+use Rattle.cl_resp.specs.{Question.{greatest_execution, longest_hold, block_of, question_of}, Response.{demand, busy_window, IsSettled}}
 use Rattle.cl_resp.proofs.BusyWindowTask.{settled_timely}
-use Rattle.cl_exact.specs.TimedPeriodic.{are_timed_periodic}
-use Rattle.cl_exact.specs.RunPromises.{HasResponse, HasItsRunnables, IsSettledTimedChain}
-use Rattle.cl_examples.specs.Examples.{from_a_to_b}
-use Rattle.cl_examples.specs.ExampleModel.{chain_ab, two_tasks_model}
-use Rattle.cl_examples.specs.TimedExample.{timed_tasks}
-use Rattle.cl_examples.specs.TimedModel.{timed_model}
+use Rattle.cl_exact.specs.{TimedPeriodic.are_timed_periodic, RunPromises.{HasResponse, HasItsRunnables, IsSettledTimedChain}}
+use Rattle.cl_examples.specs.{Examples.from_a_to_b, ExampleModel.{chain_ab, two_tasks_model}, TimedExample.timed_tasks, TimedModel.timed_model}
 use Rattle.cl_examples.proofs.ExampleFacts.{both, plain_task_sound}
 
 pub timed_system : system_of timed_model ≡ timed_tasks

@@ -2,15 +2,8 @@
 use Rattle.std.proofs.Common.{◌≡◌, ℕ, zero, suc, ◌<◌, ◌≤◌, inl, inr, true, false, Some, length, refl, sym, ap, ◌∙◌, arith}
 use Rattle.std.proofs.lemmas.List.Elements.{All-from_recursion}
 use Rattle.cl_model.specs.declared.task.AccessKind.TheVariants.{Implicit}
-use Rattle.cl_runs.specs.TaskTiming.{timing_at, range_at, IsSoundTask, IsSound}
-use Rattle.cl_runs.specs.Table.{HasTimes, AreLawfulJobs, IsLawful, table_jobs}
-use Rattle.cl_runs.specs.Run.{Run, jobs_of, core_entries, entry_at, executed}
-use Rattle.cl_runs.specs.Work.{work_before, work_through}
-use Rattle.cl_runs.specs.Held.{IsHeld}
-use Rattle.cl_runs.specs.Legal.{released, IsNoneHeld, IsScheduled, IsLegal}
-use Rattle.cl_runs.proofs.Filling.{IsFilled, legal_from}
-use Rattle.cl_runs.proofs.OneRun.{one_run}
-use Rattle.cl_runs.proofs.Work.{released_mono}
+use Rattle.cl_runs.specs.{TaskTiming.{timing_at, range_at, IsSoundTask, IsSound}, Table.{HasTimes, AreLawfulJobs, IsLawful, table_jobs}, Run.{Run, jobs_of, core_entries, entry_at, executed}, Work.{work_before, work_through}, Held.IsHeld, Legal.{released, IsNoneHeld, IsScheduled, IsLegal}}
+use Rattle.cl_runs.proofs.{Filling.{IsFilled, legal_from}, OneRun.one_run, Work.released_mono}
 use Rattle.cl_examples.specs.WholeExample.{later_a, whole_b, one_core, one_core_table, whole_run, broken_run}
 use Rattle.cl_examples.proofs.ExampleFacts.{both, plain_task_sound}
 

@@ -1,11 +1,8 @@
 -- Two models that are edited: the tasks A and B on two cores, with a chain from A to B; and the same two on one core, with
 -- a chain back.
 use Rattle.std.specs.Prelude.{false, None, [], ◌∷◌, codes}
-use Rattle.cl_model.specs.declared.model.SystemModel.{SystemModel}
-use Rattle.cl_model.specs.declared.stimulus.StimulusKind.TheVariants.{Periodic}
-use Rattle.cl_model.specs.declared.task.AccessKind.TheVariants.{Implicit}
-use Rattle.cl_edit.specs.declared.edit.Edit.{Edit}
-use Rattle.cl_edit.specs.declared.edit.Edit.TheVariants.{Range, Offset, DropChain, Swap}
+use Rattle.cl_model.specs.declared.{model.SystemModel.SystemModel, stimulus.StimulusKind.TheVariants.Periodic, task.AccessKind.TheVariants.Implicit}
+use Rattle.cl_edit.specs.declared.edit.Edit.{Edit, TheVariants.{Range, Offset, DropChain, Swap}}
 use Rattle.cl_examples.specs.ExampleModel.{chain_ab}
 
 -- A writes x each 10 ticks, in 2 to 3 of them; B reads it each 20 ticks, in 4 to 5 of them

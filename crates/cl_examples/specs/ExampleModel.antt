@@ -1,10 +1,6 @@
 -- The model whose system is that of the two tasks.
 use Rattle.std.specs.Prelude.{false, None, [], ◌∷◌, codes}
-use Rattle.cl_model.specs.declared.chain.ChainDef.{ChainDef}
-use Rattle.cl_model.specs.declared.model.SystemModel.{SystemModel}
-use Rattle.cl_model.specs.declared.stimulus.StimulusKind.TheVariants.{Periodic}
-use Rattle.cl_model.specs.declared.task.AccessKind.TheVariants.{Implicit}
-use Rattle.cl_model.specs.declared.task.TaskDef.{TaskDef}
+use Rattle.cl_model.specs.declared.{chain.ChainDef.ChainDef, model.SystemModel.SystemModel, stimulus.StimulusKind.TheVariants.Periodic, task.{AccessKind.TheVariants.Implicit, TaskDef.TaskDef}}
 
 -- task A writes the label x
 abbrev pub model_task_a : TaskDef

@@ -1,16 +1,7 @@
 -- Small systems, tables and runs that show what the definitions say.
 use Rattle.std.specs.Prelude.{ℕ, false, Option, Some, None, List, [], ◌∷◌, ◌++◌, replicate}
-use Rattle.cl_model.specs.declared.stimulus.StimulusKind.TheVariants.{Periodic, Sporadic}
-use Rattle.cl_model.specs.declared.task.AccessKind.TheVariants.{Implicit}
-use Rattle.cl_model.specs.declared.group.Group.{Group}
-use Rattle.cl_runs.specs.declared.job.Job.{Job}
-use Rattle.cl_runs.specs.declared.job.JobTable.{JobTable}
-use Rattle.cl_runs.specs.TaskTiming.{Timing, System}
-use Rattle.cl_runs.specs.Run.{Run}
-use Rattle.cl_model.specs.Groups.{groups}
-use Rattle.cl_runs.specs.Chains.{Moments, JobChain}
-use Rattle.cl_runs.specs.RunChains.{run_moments}
-use Rattle.cl_runs.specs.Measured.{Measured}
+use Rattle.cl_model.specs.{declared.{stimulus.StimulusKind.TheVariants.{Periodic, Sporadic}, task.AccessKind.TheVariants.Implicit, group.Group.Group}, Groups.groups}
+use Rattle.cl_runs.specs.{declared.job.{Job.Job, JobTable.JobTable}, TaskTiming.{Timing, System}, Run.Run, Chains.{Moments, JobChain}, RunChains.run_moments, Measured.Measured}
 
 -- a job that is released as it arrives, with its execution time of one runnable
 abbrev pub prompt_job : ℕ → ℕ → Job

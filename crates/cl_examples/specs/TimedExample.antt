@@ -1,10 +1,8 @@
 -- Two timed tasks on two cores, and the exact lengths of the chain from one to the other.
 use Rattle.std.specs.Prelude.{ℕ, ◌-◌, false, [], ◌∷◌}
-use Rattle.cl_model.specs.declared.stimulus.StimulusKind.TheVariants.{Periodic}
-use Rattle.cl_model.specs.declared.task.AccessKind.TheVariants.{Timed}
+use Rattle.cl_model.specs.declared.{stimulus.StimulusKind.TheVariants.Periodic, task.AccessKind.TheVariants.Timed}
 use Rattle.cl_runs.specs.TaskTiming.{Timing, System}
-use Rattle.cl_exact.specs.declared.witness.Witness.{Witness}
-use Rattle.cl_exact.specs.ExactLengths.{Witnesses}
+use Rattle.cl_exact.specs.{declared.witness.Witness.Witness, ExactLengths.Witnesses}
 
 -- task A: a job of 1 tick each 10 ticks, on core 0; it reads at its arrival, and writes 10 ticks later
 abbrev pub timed_a : Timing

@@ -1,9 +1,6 @@
 -- The model whose system is that of the two timed tasks.
 use Rattle.std.specs.Prelude.{false, [], ◌∷◌, codes}
-use Rattle.cl_model.specs.declared.model.SystemModel.{SystemModel}
-use Rattle.cl_model.specs.declared.stimulus.StimulusKind.TheVariants.{Periodic}
-use Rattle.cl_model.specs.declared.task.AccessKind.TheVariants.{Timed}
-use Rattle.cl_model.specs.declared.task.TaskDef.{TaskDef}
+use Rattle.cl_model.specs.declared.{model.SystemModel.SystemModel, stimulus.StimulusKind.TheVariants.Periodic, task.{AccessKind.TheVariants.Timed, TaskDef.TaskDef}}
 use Rattle.cl_examples.specs.ExampleModel.{model_task_a, model_task_b, two_tasks_model}
 
 -- the tasks of the first example's model, timed and with runnables of one tick

@@ -1,10 +1,7 @@
 -- Two tasks on one core, where the lower one isn't interrupted.
 use Rattle.std.specs.Prelude.{true, false, [], ◌∷◌, ◌++◌}
-use Rattle.cl_model.specs.declared.stimulus.StimulusKind.TheVariants.{Periodic}
-use Rattle.cl_model.specs.declared.task.AccessKind.TheVariants.{Implicit}
-use Rattle.cl_runs.specs.declared.job.JobTable.{JobTable}
-use Rattle.cl_runs.specs.TaskTiming.{Timing, System}
-use Rattle.cl_runs.specs.Run.{Run}
+use Rattle.cl_model.specs.declared.{stimulus.StimulusKind.TheVariants.Periodic, task.AccessKind.TheVariants.Implicit}
+use Rattle.cl_runs.specs.{declared.job.JobTable.JobTable, TaskTiming.{Timing, System}, Run.Run}
 use Rattle.cl_examples.specs.Examples.{task_a, prompt_job, ran}
 
 -- task A of the example before, from 1 on

@@ -1,10 +1,6 @@
 -- The model whose system is that of the two tasks on one core.
 use Rattle.std.specs.Prelude.{true, false, None, [], ◌∷◌, codes}
-use Rattle.cl_model.specs.declared.chain.ChainDef.{ChainDef}
-use Rattle.cl_model.specs.declared.model.SystemModel.{SystemModel}
-use Rattle.cl_model.specs.declared.stimulus.StimulusKind.TheVariants.{Periodic}
-use Rattle.cl_model.specs.declared.task.AccessKind.TheVariants.{Implicit}
-use Rattle.cl_model.specs.declared.task.TaskDef.{TaskDef}
+use Rattle.cl_model.specs.declared.{chain.ChainDef.ChainDef, model.SystemModel.SystemModel, stimulus.StimulusKind.TheVariants.Periodic, task.{AccessKind.TheVariants.Implicit, TaskDef.TaskDef}}
 use Rattle.cl_examples.specs.ExampleModel.{chain_ab}
 
 -- task A writes the label x, and reads y

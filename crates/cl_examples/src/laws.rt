@@ -1,26 +1,12 @@
 //! What the definitions say of small examples.
 ghost use Rattle.std.specs.Prelude.{◌≡◌, ◌⊎◌, ℕ, ◌+◌, ◌≤◌, take, Ok};
-ghost use Rattle.cl_model.specs.declared.model.SystemModel.{SystemModel};
-ghost use Rattle.cl_runs.specs.TaskTiming.{IsSound};
-ghost use Rattle.cl_runs.specs.Table.{AreLawfulJobs, IsLawful};
-ghost use Rattle.cl_runs.specs.Run.{Run};
-ghost use Rattle.cl_runs.specs.RunChains.{run_moments};
-ghost use Rattle.cl_runs.specs.Legal.{IsLegal};
-ghost use Rattle.cl_runs.specs.Chains.{JobChain, first_job, IsEarliestReader, IsForwardChain, IsAgeChain, IsReducedChain};
-ghost use Rattle.cl_runs.specs.Measured.{IsMeasured};
-ghost use Rattle.cl_model.specs.Groups.{groups_of, group_at};
-ghost use Rattle.cl_runs.specs.SystemOf.{system_of};
-ghost use Rattle.cl_exact.specs.ExactLengths.{AreExactLengths};
-ghost use Rattle.cl_exact.specs.RunPromises.{IsSettledTimedChain};
+ghost use Rattle.cl_model.specs.{declared.model.SystemModel.SystemModel, Groups.{groups_of, group_at}};
+ghost use Rattle.cl_runs.specs.{TaskTiming.IsSound, Table.{AreLawfulJobs, IsLawful}, Run.Run, RunChains.run_moments, Legal.IsLegal, Chains.{JobChain, first_job, IsEarliestReader, IsForwardChain, IsAgeChain, IsReducedChain}, Measured.IsMeasured, SystemOf.system_of};
+ghost use Rattle.cl_exact.specs.{ExactLengths.AreExactLengths, RunPromises.IsSettledTimedChain};
 ghost use Rattle.cl_edit.specs.Edited.{edited};
 ghost use Rattle.cl_incr.specs.Changed.{AsksForChanges};
-ghost use Rattle.cl_examples.specs.EditedModels.{two_cores_model, two_chains_model, longer_b, later_b, no_chain_ab, b_above_a};
-ghost use Rattle.cl_examples.specs.ExampleModel.{two_tasks_model, chain_ab};
-ghost use Rattle.cl_examples.specs.WholeModel.{one_core_model};
-ghost use Rattle.cl_examples.specs.WholeExample.{one_core, one_core_table, whole_run, broken_run, one_core_divided};
-ghost use Rattle.cl_examples.specs.TimedExample.{timed_tasks, timed_lengths};
-ghost use Rattle.cl_examples.specs.TimedModel.{timed_model};
-ghost use Rattle.cl_examples.specs.Examples.{sporadic_task, two_jobs, two_tasks, jobs_of_b, table_with, two_tasks_run, two_tasks_moments, from_a_to_b, two_job_chain, two_tasks_measured};
+ghost use Rattle.cl_examples.specs.{EditedModels.{two_cores_model, two_chains_model, longer_b, later_b, no_chain_ab, b_above_a}, ExampleModel.{two_tasks_model, chain_ab}, WholeModel.one_core_model, WholeExample.{one_core, one_core_table, whole_run, broken_run, one_core_divided}};
+ghost use Rattle.cl_examples.specs.{TimedExample.{timed_tasks, timed_lengths}, TimedModel.timed_model, Examples.{sporadic_task, two_jobs, two_tasks, jobs_of_b, table_with, two_tasks_run, two_tasks_moments, from_a_to_b, two_job_chain, two_tasks_measured}};
 
 /// For a sporadic task with gaps from 5 to 8, arrivals at 0 and 8 are lawful for 16 ticks, but not
 /// for 17, since a third one was due.

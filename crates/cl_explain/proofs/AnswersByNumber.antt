@@ -5,11 +5,8 @@ use Rattle.std.proofs.lemmas.List.FromFn.{map-range_with_len_more}
 use Rattle.cl_resp.proofs.Filters.{by_number}
 use Rattle.std.proofs.lemmas.List.{get_or-map, length-map}
 use Rattle.cl_model.specs.declared.model.SystemModel.{SystemModel}
-use Rattle.cl_runs.specs.TaskTiming.{timing_at, no_timing}
-use Rattle.cl_runs.specs.SystemOf.{timing_of, system_of}
-use Rattle.cl_bound.specs.declared.answer.TaskAnswer.{TaskAnswer}
-use Rattle.cl_bound.specs.declared.answer.TaskAnswer.TheVariants.{Late}
-use Rattle.cl_bound.specs.Answers.{answer_to, answers_of, answer_at}
+use Rattle.cl_runs.specs.{TaskTiming.{timing_at, no_timing}, SystemOf.{timing_of, system_of}}
+use Rattle.cl_bound.specs.{declared.answer.TaskAnswer.{TaskAnswer, TheVariants.Late}, Answers.{answer_to, answers_of, answer_at}}
 
 count_is : (model : SystemModel) → length (system_of model).tasks ≡ length model.tasks
 unfolding system_of

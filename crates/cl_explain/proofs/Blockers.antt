@@ -7,11 +7,8 @@ use Rattle.std.proofs.lemmas.Grind.{flat_map-append}
 use Rattle.std.proofs.lemmas.List.{append-nil, get_or_default}
 use Rattle.std.proofs.lemmas.List.Folds.{find-append}
 use Rattle.cl_text.proofs.MoreLines.{range_more}
-use Rattle.cl_model.specs.declared.model.SystemModel.{SystemModel}
-use Rattle.cl_model.specs.declared.task.RunnableDef.{RunnableDef}
-use Rattle.cl_model.specs.ByNumber.{task_at, no_runnable}
-use Rattle.cl_runs.specs.TaskTiming.{timing_at}
-use Rattle.cl_runs.specs.SystemOf.{system_of}
+use Rattle.cl_model.specs.{declared.{model.SystemModel.SystemModel, task.RunnableDef.RunnableDef}, ByNumber.{task_at, no_runnable}}
+use Rattle.cl_runs.specs.{TaskTiming.timing_at, SystemOf.system_of}
 use Rattle.cl_resp.specs.declared.question.Block.{Block}
 use Rattle.cl_explain.specs.Parts.{may_block_by, blocks_so_long, runnables_of_blocker, blocker_name, blocker_of}
 use Rattle.cl_explain.proofs.FoundInLists.{first_at, found_first, none_at, none_found}

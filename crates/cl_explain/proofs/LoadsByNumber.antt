@@ -4,19 +4,11 @@ use Rattle.std.specs.Prelude.{◌==◌}
 use Rattle.std.specs.List.{filter, sum_by, range_with_len}
 use Rattle.std.proofs.lemmas.List.Folds.{fold-map}
 use Rattle.std.proofs.lemmas.Simd.{map-map}
-use Rattle.cl_model.specs.declared.limits.TheConstants.{MOST_TICKS, MOST_RUNNABLES, MOST_JOBS_OF_BURST}
-use Rattle.cl_model.specs.declared.model.SystemModel.{SystemModel}
-use Rattle.cl_model.specs.declared.task.TaskDef.{TaskDef}
-use Rattle.cl_model.specs.declared.stimulus.StimulusKind.{StimulusKind}
-use Rattle.cl_model.specs.declared.stimulus.StimulusKind.TheVariants.{Periodic, Sporadic, Burst}
-use Rattle.cl_model.specs.ByNumber.{no_task, task_at, stimulus_of, time_of, tasks_of_core}
-use Rattle.cl_model.specs.Ranges.{IsKindInRange}
-use Rattle.cl_model.specs.Validity.{IsValid}
+use Rattle.cl_model.specs.{declared.{limits.TheConstants.{MOST_TICKS, MOST_RUNNABLES, MOST_JOBS_OF_BURST}, model.SystemModel.SystemModel, task.TaskDef.TaskDef, stimulus.StimulusKind.{StimulusKind, TheVariants.{Periodic, Sporadic, Burst}}}, ByNumber.{no_task, task_at, stimulus_of, time_of}}
+use Rattle.cl_model.specs.{ByNumber.tasks_of_core, Ranges.IsKindInRange, Validity.IsValid}
 use Rattle.cl_model.proofs.ValidTasks.{kind_in_range, little_time}
-use Rattle.cl_runs.specs.TaskTiming.{Timing}
-use Rattle.cl_runs.specs.SystemOf.{timing_of, system_of}
-use Rattle.cl_resp.proofs.Questions.{time_is}
-use Rattle.cl_resp.proofs.Filters.{by_number, filter-map}
+use Rattle.cl_runs.specs.{TaskTiming.Timing, SystemOf.{timing_of, system_of}}
+use Rattle.cl_resp.proofs.{Questions.time_is, Filters.{by_number, filter-map}}
 use Rattle.cl_explain.specs.Loads.{jobs_of_round, ticks_of_round, load_of_round, load_up, load_down, core_load, sure_load, MILLION}
 
 -- the load of a task, rounded up or down

@@ -6,11 +6,8 @@ use Rattle.std.specs.List.{list_any}
 use Rattle.std.proofs.lemmas.List.{take_more}
 use Rattle.std.proofs.lemmas.List.Folds.{list_any-append}
 use Rattle.cl_time.specs.declared.no_memory.NoMemory.{NoMemory}
-use Rattle.cl_model.specs.declared.task.RunnableDef.{RunnableDef}
-use Rattle.cl_model.specs.Named.{same_name, has_name}
-use Rattle.cl_model.specs.NameSets.{names_with}
-use Rattle.cl_explain.specs.declared.labels.Marks.{Marks}
-use Rattle.cl_explain.specs.Inner.Marks.{AreMarksOf, MarksMore}
+use Rattle.cl_model.specs.{declared.task.RunnableDef.RunnableDef, Named.{same_name, has_name}, NameSets.names_with}
+use Rattle.cl_explain.specs.{declared.labels.Marks.Marks, Inner.Marks.{AreMarksOf, MarksMore}}
 
 -- what follows where all is well
 pub still_ok : (result : Result (Unit {0}) NoMemory) (P Q : Type 0) → (P → Q) → OnOk result P → OnOk result Q

@@ -1,15 +1,10 @@
 -- A task without a response by phases has none by its tight question either.
 use Rattle.std.proofs.Common.{◌≡◌, ℕ, ◌<◌, true, Option, Some, None, length, refl, sym, ap, ◌∙◌}
 use Rattle.cl_runs.specs.TaskTiming.{System, timing_at, IsSound}
-use Rattle.cl_resp.specs.declared.question.Question.{Question}
-use Rattle.cl_resp.specs.ByPhase.{response_by_phase}
-use Rattle.cl_resp.specs.Question.{tight_question_of}
-use Rattle.cl_resp.specs.Response.{Response, response_to}
-use Rattle.cl_resp.proofs.LeastAnswers.{least_is_found}
-use Rattle.cl_resp.proofs.LeastRound.{asked_comes_round}
+use Rattle.cl_resp.specs.{declared.question.Question.Question, ByPhase.response_by_phase, Question.tight_question_of, Response.{Response, response_to}}
+use Rattle.cl_resp.proofs.{LeastAnswers.least_is_found, LeastRound.asked_comes_round, AnsweredSooner.tight_by_phase}
 use Rattle.cl_bound.specs.Answers.{answer_with, answer_at, is_late}
 use Rattle.cl_tight.specs.TightAnswers.{tight_answers_of}
-use Rattle.cl_resp.proofs.AnsweredSooner.{tight_by_phase}
 use Rattle.cl_tight.proofs.TightTasks.{phased_answer}
 use Rattle.cl_analyse.proofs.LateTasks.{late_question}
 use Rattle.cl_explain.specs.Promises.{HasNoResponse}

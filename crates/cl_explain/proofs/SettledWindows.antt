@@ -3,12 +3,9 @@ use Rattle.std.proofs.Common.{◌≡◌, ℕ, ◌+◌, ◌≤◌, refl, sym, ap,
 use Rattle.std.specs.Prelude.{Option, Some, None}
 use Rattle.std.specs.Option.{option_map}
 use Rattle.cl_stim.specs.declared.arrivals.TheConstants.{MOST_WIDTH}
-use Rattle.cl_resp.specs.declared.question.Question.{Question}
-use Rattle.cl_resp.specs.Question.{IsQuestionInRange}
-use Rattle.cl_resp.specs.Response.{Response, busy_window, response_to}
+use Rattle.cl_resp.specs.{declared.question.Question.Question, Question.IsQuestionInRange, Response.{Response, busy_window, response_to}}
 use Rattle.cl_resp.proofs.Windows.{window_is_least}
-use Rattle.cl_bound.specs.declared.answer.TaskAnswer.TheVariants.{Settled, Late}
-use Rattle.cl_bound.specs.Answers.{answer_with}
+use Rattle.cl_bound.specs.{declared.answer.TaskAnswer.TheVariants.{Settled, Late}, Answers.answer_with}
 
 -- the answer of a window, where there is one
 abbrev pub response_with : Question → Option ℕ → Option Response

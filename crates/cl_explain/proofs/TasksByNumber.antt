@@ -2,19 +2,12 @@
 use Rattle.std.proofs.Common.{◌≡◌, ℕ, ◌*◌, ◌<◌, Bool, true, false, cond, nat_le, nat_lt, [], length, refl, sym, ap, ◌∙◌}
 use Rattle.std.specs.Prelude.{◌==◌, ◌&&◌}
 use Rattle.std.proofs.lemmas.Bool.{eqb-true, eq-eqb}
-use Rattle.cl_model.specs.declared.model.SystemModel.{SystemModel}
-use Rattle.cl_model.specs.declared.task.TaskDef.{TaskDef}
-use Rattle.cl_model.specs.declared.stimulus.StimulusKind.{StimulusKind}
-use Rattle.cl_model.specs.ByNumber.{task_at, core_of, stimulus_of, time_of}
-use Rattle.cl_runs.specs.TaskTiming.{Timing, timing_at}
-use Rattle.cl_runs.specs.SystemOf.{timing_of, system_of}
-use Rattle.cl_runs.specs.Priorities.{is_above, may_block, is_below}
+use Rattle.cl_model.specs.{declared.{model.SystemModel.SystemModel, task.TaskDef.TaskDef, stimulus.StimulusKind.StimulusKind}, ByNumber.{task_at, core_of, stimulus_of, time_of}}
+use Rattle.cl_runs.specs.{TaskTiming.{Timing, timing_at}, SystemOf.{timing_of, system_of}, Priorities.{is_above, may_block, is_below}}
 use Rattle.cl_runs.proofs.ModelSystem.{timing_is}
-use Rattle.cl_stim.specs.AnyStimulus.{kind_of, as_stimulus}
-use Rattle.cl_stim.specs.Releases.{most_releases}
+use Rattle.cl_stim.specs.{AnyStimulus.{kind_of, as_stimulus}, Releases.most_releases}
 use Rattle.cl_resp.specs.Question.{greatest_execution}
-use Rattle.cl_resp.proofs.Questions.{time_is}
-use Rattle.cl_resp.proofs.StimulusKinds.{kind_of-as_stimulus}
+use Rattle.cl_resp.proofs.{Questions.time_is, StimulusKinds.kind_of-as_stimulus}
 use Rattle.cl_explain.specs.Parts.{jobs_above, time_above, taken_part, above_part}
 
 and_same : (m n : ℕ) (x : Bool) → m ≡ n → x ≡ ((m == n) && x)

@@ -2,25 +2,14 @@
 use Rattle.std.proofs.Common.{◌≡◌, ℕ, ◌+◌, ◌-◌, ◌<◌, ◌≤◌, pos, ℤ, List, [], ◌++◌, length, map, sym, ap, ◌∙◌, subst, codes, arith}
 use Rattle.std.proofs.lemmas.List.{append_assoc}
 use Rattle.std.proofs.lemmas.List.FromFn.{length-map-range_with_len}
-use Rattle.cl_model.specs.declared.model.SystemModel.{SystemModel}
-use Rattle.cl_model.specs.declared.limits.TheConstants.{MOST_STEPS}
-use Rattle.cl_model.specs.declared.chain.LengthKind.TheVariants.{Reaction}
-use Rattle.cl_model.specs.declared.chain.RequirementKind.TheVariants.{Length}
-use Rattle.cl_model.specs.declared.group.Group.{Group}
+use Rattle.cl_model.specs.{declared.{model.SystemModel.SystemModel, limits.TheConstants.MOST_STEPS, chain.{LengthKind.TheVariants.Reaction, RequirementKind.TheVariants.Length}, group.Group.Group}, Groups.groups_at, Validity.IsValid}
 use Rattle.cl_bound.specs.declared.group_timing.GroupTiming.{GroupTiming}
-use Rattle.cl_model.specs.Groups.{groups_at}
-use Rattle.cl_model.specs.Validity.{IsValid}
 use Rattle.cl_model.proofs.GroupFacts.{groups_at_some, groups_at_few}
 use Rattle.cl_runs.specs.SystemOf.{system_of}
-use Rattle.cl_phase.specs.declared.walked.Walked.{Walked}
-use Rattle.cl_phase.specs.Pace.{previous}
+use Rattle.cl_phase.specs.{declared.walked.Walked.Walked, Pace.previous, Walks.{pace_at, last_place, onward, back}, TightBounds.{stops_of, span_of, last_write, slowest}, Walked.{walk_start, missed, taken, walked_of}}
 use Rattle.cl_tight.specs.TightTimings.{tight_timing}
-use Rattle.cl_phase.specs.Walks.{pace_at, last_place, onward, back}
-use Rattle.cl_phase.specs.TightBounds.{stops_of, span_of, last_write, slowest}
-use Rattle.cl_phase.specs.Walked.{walk_start, missed, taken, walked_of}
 use Rattle.cl_explain.specs.Explanation.{arrival_lines, walk_lines}
-use Rattle.cl_phase.proofs.SlowestFacts.{slowest_within}
-use Rattle.cl_phase.proofs.StopFacts.{length_stops}
+use Rattle.cl_phase.proofs.{SlowestFacts.slowest_within, StopFacts.length_stops}
 
 -- the walk that is found of the groups of a chain, from what is known of each, is that of the chain
 pub its_walk : (model : SystemModel) (chain : ℕ) (timings : List GroupTiming) (groups : List Group) (reaction : ℕ) (walk : Walked)

@@ -2,22 +2,12 @@
 use Rattle.std.specs.Prelude.{ℕ, ◌*◌, Bool, true, false, cond, not, ◌&&◌, nat_lt, List, [], ◌∷◌, ◌++◌, length, filter, codes, decimal}
 use Rattle.std.specs.List.{flat_map, list_any, range_with_len}
 use Rattle.cl_text.specs.Line.{line}
-use Rattle.cl_model.specs.declared.model.SystemModel.{SystemModel}
-use Rattle.cl_model.specs.declared.model.LabelDef.{LabelDef}
-use Rattle.cl_model.specs.declared.stimulus.StimulusDef.{StimulusDef}
-use Rattle.cl_model.specs.declared.stimulus.StimulusKind.{StimulusKind}
-use Rattle.cl_model.specs.declared.stimulus.StimulusKind.TheVariants.{Periodic, Sporadic, Burst}
-use Rattle.cl_model.specs.declared.task.RunnableDef.{RunnableDef}
-use Rattle.cl_model.specs.declared.task.TaskDef.{TaskDef}
-use Rattle.cl_model.specs.Named.{same_name, has_name, all_runnables}
-use Rattle.cl_model.specs.ByNumber.{core_at, task_at, stimulus_of}
-use Rattle.cl_model.specs.Timing.{least_distance}
+use Rattle.cl_model.specs.{declared.{model.{SystemModel.SystemModel, LabelDef.LabelDef}, stimulus.{StimulusDef.StimulusDef, StimulusKind.{StimulusKind, TheVariants.{Periodic, Sporadic, Burst}}}, task.{RunnableDef.RunnableDef, TaskDef.TaskDef}}, Named.{same_name, has_name, all_runnables}}
+use Rattle.cl_model.specs.{ByNumber.{core_at, task_at, stimulus_of}, Timing.least_distance}
 use Rattle.cl_runs.specs.SystemOf.{system_of}
 use Rattle.cl_bound.specs.Answers.{is_late, answer_at}
 use Rattle.cl_tight.specs.TightAnswers.{tight_answers_of}
-use Rattle.cl_explain.specs.declared.labels.LabelUse.{LabelUse}
-use Rattle.cl_explain.specs.declared.labels.LabelUse.TheVariants.{Input, Output, Unused}
-use Rattle.cl_explain.specs.Loads.{sure_load, MILLION}
+use Rattle.cl_explain.specs.{declared.labels.LabelUse.{LabelUse, TheVariants.{Input, Output, Unused}}, Loads.{sure_load, MILLION}}
 
 -- ---- labels
 

@@ -1,8 +1,7 @@
 -- How much of a core its tasks take, in millionths of time.
 use Rattle.std.specs.Prelude.{ℕ, ◌*◌, ◌/◌, ◌==◌, List, filter, sum_by}
 use Rattle.std.specs.Int.{div_ceil}
-use Rattle.cl_model.specs.declared.stimulus.StimulusKind.{StimulusKind}
-use Rattle.cl_model.specs.declared.stimulus.StimulusKind.TheVariants.{Periodic, Sporadic, Burst}
+use Rattle.cl_model.specs.declared.stimulus.StimulusKind.{StimulusKind, TheVariants.{Periodic, Sporadic, Burst}}
 use Rattle.cl_runs.specs.TaskTiming.{Timing, System}
 use Rattle.cl_resp.specs.Question.{greatest_execution}
 

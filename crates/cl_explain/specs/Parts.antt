@@ -2,21 +2,11 @@
 use Rattle.std.specs.Prelude.{ℕ, ◌-◌, ◌*◌, Bool, cond, ◌==◌, nat_lt, List, [], ◌++◌, length, find, Option, Some, None, codes, decimal}
 use Rattle.std.specs.List.{flat_map, range_with_len}
 use Rattle.cl_text.specs.Line.{line}
-use Rattle.cl_model.specs.declared.model.SystemModel.{SystemModel}
-use Rattle.cl_model.specs.declared.task.RunnableDef.{RunnableDef}
-use Rattle.cl_model.specs.Holds.{runnable_hold}
-use Rattle.cl_model.specs.ByNumber.{task_at}
-use Rattle.cl_runs.specs.TaskTiming.{Timing, timing_at}
-use Rattle.cl_runs.specs.SystemOf.{system_of}
-use Rattle.cl_runs.specs.Priorities.{is_above, may_block, is_below}
+use Rattle.cl_model.specs.{declared.{model.SystemModel.SystemModel, task.RunnableDef.RunnableDef}, Holds.runnable_hold, ByNumber.task_at}
+use Rattle.cl_runs.specs.{TaskTiming.{Timing, timing_at}, SystemOf.system_of, Priorities.{is_above, may_block, is_below}}
 use Rattle.cl_stim.specs.Releases.{most_releases}
-use Rattle.cl_resp.specs.declared.question.Block.{Block}
-use Rattle.cl_resp.specs.declared.question.Block.TheVariants.{OfLower, WithOwn}
-use Rattle.cl_resp.specs.declared.question.Question.{Question}
-use Rattle.cl_resp.specs.Question.{greatest_execution, question_of}
-use Rattle.cl_resp.specs.Response.{demand}
-use Rattle.cl_bound.specs.declared.answer.TaskAnswer.{TaskAnswer}
-use Rattle.cl_bound.specs.declared.answer.TaskAnswer.TheVariants.{Settled, Late}
+use Rattle.cl_resp.specs.{declared.question.{Block.{Block, TheVariants.{OfLower, WithOwn}}, Question.Question}, Question.{greatest_execution, question_of}, Response.demand}
+use Rattle.cl_bound.specs.declared.answer.TaskAnswer.{TaskAnswer, TheVariants.{Settled, Late}}
 
 -- the window over which releases are counted: that of the response; where the task is late, all of its deadline that the
 -- jitter leaves

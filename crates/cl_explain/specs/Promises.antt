@@ -1,33 +1,14 @@
 -- What an explanation promises: its numbers hold in every legal run, and add up. Times are in ticks.
 use Rattle.std.specs.Prelude.{◌≡◌, ℕ, ◌+◌, ◌-◌, ◌<◌, ◌≤◌, true, false, None, ℤ, pos, ◌+ℤ◌, ◌-ℤ◌, List, ◌∷◌, length, filter, sum_by, slice_index_or}
-use Rattle.cl_model.specs.declared.group.Group.{Group}
-use Rattle.cl_model.specs.declared.model.SystemModel.{SystemModel}
-use Rattle.cl_model.specs.ByNumber.{chain_at}
-use Rattle.cl_model.specs.Groups.{groups_at}
-use Rattle.cl_runs.specs.SystemOf.{system_of}
-use Rattle.cl_runs.specs.Responses.{AlwaysFinishesWithin}
-use Rattle.cl_runs.specs.TaskTiming.{System, timing_at}
-use Rattle.cl_runs.specs.Priorities.{is_above}
-use Rattle.cl_resp.specs.Asked.{AnswersWithin}
-use Rattle.cl_resp.specs.ByPhase.{asked_by_phase, response_by_phase}
-use Rattle.cl_resp.specs.Question.{greatest_execution, question_of, tight_question_of}
-use Rattle.cl_resp.specs.Response.{Response, HasNoFixpoint}
+use Rattle.cl_model.specs.{declared.{group.Group.Group, model.SystemModel.SystemModel}, ByNumber.chain_at, Groups.groups_at}
+use Rattle.cl_runs.specs.{SystemOf.system_of, Responses.AlwaysFinishesWithin, TaskTiming.{System, timing_at}, Priorities.is_above}
+use Rattle.cl_resp.specs.{Asked.AnswersWithin, ByPhase.{asked_by_phase, response_by_phase}, Question.{greatest_execution, question_of, tight_question_of}, Response.{Response, HasNoFixpoint}}
 use Rattle.cl_bound.specs.declared.answer.TaskAnswer.TheVariants as answer
-use Rattle.cl_bound.specs.Answers.{answers_of, answer_at, is_late}
-use Rattle.cl_bound.specs.Bounds.{Lengths, last_of, settled_timings}
-use Rattle.cl_bound.specs.Promises.{AreSafe}
-use Rattle.cl_bound.specs.Hops.{forward_hop, backward_hop, hops}
-use Rattle.cl_bound.specs.declared.group_timing.GroupTiming.{GroupTiming}
-use Rattle.cl_tight.specs.TightAnswers.{tight_answers_of}
-use Rattle.cl_tight.specs.TightTimings.{tight_timing}
-use Rattle.cl_phase.specs.TightBounds.{span_of}
-use Rattle.cl_phase.specs.Walked.{walked_of}
-use Rattle.cl_analyse.specs.declared.findings.ChainAnswer.TheVariants.{Bounds}
-use Rattle.cl_analyse.specs.ChainAnswers.{chain_answer_of}
-use Rattle.cl_tight.specs.TightFindings.{tight_chain_answer_of}
-use Rattle.cl_explain.specs.Accepted.{accepted_text}
-use Rattle.cl_explain.specs.Explanation.{explanation}
-use Rattle.cl_explain.specs.Parts.{time_above, time_over}
+use Rattle.cl_bound.specs.{Answers.{answers_of, answer_at, is_late}, Bounds.{Lengths, last_of, settled_timings}, Promises.AreSafe, Hops.{forward_hop, backward_hop, hops}, declared.group_timing.GroupTiming.GroupTiming}
+use Rattle.cl_tight.specs.{TightAnswers.tight_answers_of, TightTimings.tight_timing, TightFindings.tight_chain_answer_of}
+use Rattle.cl_phase.specs.{TightBounds.span_of, Walked.walked_of}
+use Rattle.cl_analyse.specs.{declared.findings.ChainAnswer.TheVariants.Bounds, ChainAnswers.chain_answer_of}
+use Rattle.cl_explain.specs.{Accepted.accepted_text, Explanation.explanation, Parts.{time_above, time_over}}
 
 -- the sum of the parts of a task over a window
 abbrev pub sum_of_parts : System → (task width : ℕ) → ℕ

@@ -5,8 +5,7 @@ ghost use Rattle.cl_model.specs.Validity.{IsValid};
 ghost use Rattle.cl_runs.specs.SystemOf.{system_of};
 ghost use Rattle.cl_bound.specs.Answers.{is_late, answer_at};
 ghost use Rattle.cl_tight.specs.TightAnswers.{tight_answers_of};
-ghost use Rattle.cl_explain.specs.Loads.{sure_load};
-ghost use Rattle.cl_explain.specs.Accepted.{overloaded_line, late_task_line, all_label_lines, names_stimulus, apart_line, apart_from, apart_lines, accepted_text};
+ghost use Rattle.cl_explain.specs.{Loads.sure_load, Accepted.{overloaded_line, late_task_line, all_label_lines, names_stimulus, apart_line, apart_from, apart_lines, accepted_text}};
 
 use crate::labels::{LabelUse, Marks, put_labels, put_named};
 use crate::loads::{MILLION, load_of_core};

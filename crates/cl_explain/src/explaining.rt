@@ -1,11 +1,9 @@
 //! Why the responses and the bounds of a model are what they are. Times are in ticks.
 ghost use Rattle.std.specs.Prelude.{◌≡◌, ◌+◌, ◌<◌, ◌≤◌, ◌++◌, length, OnOk, IfOk};
 ghost use Rattle.std.specs.List.{flat_map, range_with_len};
-ghost use Rattle.cl_model.specs.ByNumber.{chain_at};
-ghost use Rattle.cl_model.specs.Validity.{IsValid};
+ghost use Rattle.cl_model.specs.{ByNumber.chain_at, Validity.IsValid};
 ghost use Rattle.cl_runs.specs.SystemOf.{system_of};
-ghost use Rattle.cl_resp.specs.Question.{IsQuestionInRange};
-ghost use Rattle.cl_resp.specs.Response.{response_to};
+ghost use Rattle.cl_resp.specs.{Question.IsQuestionInRange, Response.response_to};
 ghost use Rattle.cl_bound.specs.Answers.{answer_with, answers_of, answer_at};
 ghost use Rattle.cl_tight.specs.TightAnswers.{tight_answers_of};
 ghost use Rattle.cl_analyse.specs.ChainAnswers.{chain_answer_of};

@@ -1,10 +1,8 @@
 //! Which labels are read, and which are written.
 ghost use Rattle.std.specs.Prelude.{◌≡◌, ◌<◌, ◌++◌, ◌||◌, ℕ, List, length, OnOk, IfOk};
 ghost use Rattle.cl_text.specs.Line.{line};
-ghost use Rattle.cl_model.specs.declared.task.RunnableDef.{RunnableDef};
-ghost use Rattle.cl_model.specs.Named.{has_name, all_runnables};
-ghost use Rattle.cl_explain.specs.Accepted.{use_word, is_used_so, label_line, label_lines};
-ghost use Rattle.cl_explain.specs.Inner.Marks.{AreMarksOf, MarksMore};
+ghost use Rattle.cl_model.specs.{declared.task.RunnableDef.RunnableDef, Named.{has_name, all_runnables}};
+ghost use Rattle.cl_explain.specs.{Accepted.{use_word, is_used_so, label_line, label_lines}, Inner.Marks.{AreMarksOf, MarksMore}};
 
 use cl_model::{LabelDef, Name, NameSet, RunnableDef, TaskDef, ValidModel};
 use cl_report::put_name;

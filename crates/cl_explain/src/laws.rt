@@ -1,24 +1,12 @@
 //! What an explanation promises, over every valid model.
 ghost use Rattle.std.specs.Prelude.{◌≡◌, ℕ, ◌<◌, List, ◌∷◌, length};
-ghost use Rattle.cl_model.specs.declared.model.SystemModel.{SystemModel};
-ghost use Rattle.cl_model.specs.ByNumber.{chain_at};
-ghost use Rattle.cl_model.specs.Groups.{groups_at};
-ghost use Rattle.cl_model.specs.Validity.{IsValid};
-ghost use Rattle.cl_runs.specs.SystemOf.{system_of};
-ghost use Rattle.cl_runs.specs.TaskTiming.{timing_at};
-ghost use Rattle.cl_resp.specs.Question.{question_of};
-ghost use Rattle.cl_resp.specs.Response.{Response};
-ghost use Rattle.cl_bound.specs.declared.answer.TaskAnswer.TheVariants.{Settled, Late};
-ghost use Rattle.cl_bound.specs.declared.group_timing.GroupTiming.{GroupTiming};
-ghost use Rattle.cl_bound.specs.Answers.{answers_of, answer_at};
-ghost use Rattle.cl_bound.specs.Bounds.{Lengths, settled_timings};
-ghost use Rattle.cl_analyse.specs.declared.findings.ChainAnswer.TheVariants.{Bounds};
-ghost use Rattle.cl_analyse.specs.ChainAnswers.{chain_answer_of};
+ghost use Rattle.cl_model.specs.{declared.model.SystemModel.SystemModel, ByNumber.chain_at, Groups.groups_at, Validity.IsValid};
+ghost use Rattle.cl_runs.specs.{SystemOf.system_of, TaskTiming.timing_at};
+ghost use Rattle.cl_resp.specs.{Question.question_of, Response.Response};
+ghost use Rattle.cl_bound.specs.{declared.{answer.TaskAnswer.TheVariants.{Settled, Late}, group_timing.GroupTiming.GroupTiming}, Answers.{answers_of, answer_at}, Bounds.{Lengths, settled_timings}};
+ghost use Rattle.cl_analyse.specs.{declared.findings.ChainAnswer.TheVariants.Bounds, ChainAnswers.chain_answer_of};
 ghost use Rattle.cl_tight.specs.TightFindings.{tight_chain_answer_of};
-ghost use Rattle.cl_explain.specs.Accepted.{accepted_text};
-ghost use Rattle.cl_explain.specs.Explanation.{explanation};
-ghost use Rattle.cl_explain.specs.Parts.{time_over};
-ghost use Rattle.cl_explain.specs.Promises.{AddUpToResponse, AddUpPastDeadline, AddUpToBounds, ShowsItsWalk, IsSafeExplanation, IsSafeAcceptance};
+ghost use Rattle.cl_explain.specs.{Accepted.accepted_text, Explanation.explanation, Parts.time_over, Promises.{AddUpToResponse, AddUpPastDeadline, AddUpToBounds, ShowsItsWalk, IsSafeExplanation, IsSafeAcceptance}};
 
 /// The parts of a settled task of a valid model add up to its response: its jitter, its blocking,
 /// its own execution time, and the time that the tasks above it take of the window of the response.

@@ -1,7 +1,6 @@
 //! How much of the time of a core its tasks take, in millionths.
 ghost use Rattle.std.specs.Prelude.{◌≡◌, ◌<◌, ◌≤◌, ◌*◌, ◌^◌, cond, length};
-ghost use Rattle.cl_model.specs.ByNumber.{task_at};
-ghost use Rattle.cl_model.specs.Validity.{IsValid};
+ghost use Rattle.cl_model.specs.{ByNumber.task_at, Validity.IsValid};
 ghost use Rattle.cl_runs.specs.SystemOf.{timing_of, system_of};
 ghost use Rattle.cl_explain.specs.Loads.{jobs_of_round, ticks_of_round, load_of_round, load_up, load_down, core_load, sure_load};
 

@@ -1,12 +1,8 @@
 //! The parts that add up to a response. Times are in ticks.
 ghost use Rattle.std.specs.Prelude.{◌≡◌, ◌<◌, ◌≤◌, ◌++◌, length, OnOk, position, codes};
-ghost use Rattle.cl_model.specs.ByNumber.{task_at};
-ghost use Rattle.cl_model.specs.Validity.{IsValid};
-ghost use Rattle.cl_runs.specs.SystemOf.{system_of};
-ghost use Rattle.cl_runs.specs.TaskTiming.{timing_at};
-ghost use Rattle.cl_runs.specs.Priorities.{is_above, is_below, may_block};
-ghost use Rattle.cl_resp.specs.Question.{question_of, IsQuestionInRange};
-ghost use Rattle.cl_resp.specs.Response.{response_to};
+ghost use Rattle.cl_model.specs.{ByNumber.task_at, Validity.IsValid};
+ghost use Rattle.cl_runs.specs.{SystemOf.system_of, TaskTiming.timing_at, Priorities.{is_above, is_below, may_block}};
+ghost use Rattle.cl_resp.specs.{Question.{question_of, IsQuestionInRange}, Response.response_to};
 ghost use Rattle.cl_bound.specs.Answers.{answer_with};
 ghost use Rattle.cl_explain.specs.Parts.{may_block_by, window_counted, jobs_above, time_above, blocks_so_long, blocker_of, jitter_part, block_part, own_part, above_part, above_parts, over_part, part_lines, taken_part};
 

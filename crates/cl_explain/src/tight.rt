@@ -1,19 +1,12 @@
 //! The tight bounds of a chain, and a walk that lasts as long as the tight bound on its reaction.
 //! Times are in ticks.
 ghost use Rattle.std.specs.Prelude.{◌≡◌, ◌+◌, ◌<◌, ◌≤◌, ◌++◌, length, map, All, OnOk};
-ghost use Rattle.cl_model.specs.ByNumber.{chain_at};
-ghost use Rattle.cl_model.specs.declared.limits.TheConstants.{MOST_STEPS};
-ghost use Rattle.cl_model.specs.Groups.{groups_at};
-ghost use Rattle.cl_model.specs.Validity.{IsValid};
+ghost use Rattle.cl_model.specs.{ByNumber.chain_at, declared.limits.TheConstants.MOST_STEPS, Groups.groups_at, Validity.IsValid};
 ghost use Rattle.cl_runs.specs.SystemOf.{system_of};
-ghost use Rattle.cl_bound.specs.Answers.{NoneIsLate};
-ghost use Rattle.cl_bound.specs.Hops.{IsNear};
-ghost use Rattle.cl_tight.specs.TightAnswers.{tight_answers_of};
-ghost use Rattle.cl_tight.specs.TightTimings.{tight_timing};
+ghost use Rattle.cl_bound.specs.{Answers.NoneIsLate, Hops.IsNear};
+ghost use Rattle.cl_tight.specs.{TightAnswers.tight_answers_of, TightTimings.tight_timing, TightFindings.tight_chain_answer_of, Found.AreWindowsOf};
 ghost use Rattle.cl_phase.specs.TightBounds.{tight_bounds};
 ghost use Rattle.cl_analyse.specs.declared.findings.ChainAnswer.TheVariants as answers;
-ghost use Rattle.cl_tight.specs.TightFindings.{tight_chain_answer_of};
-ghost use Rattle.cl_tight.specs.Found.{AreWindowsOf};
 ghost use Rattle.cl_explain.specs.Explanation.{arrival_words, arrival_line, arrival_lines, walk_lines, tight_line, tight_lines};
 
 use crate::groups::put_task_of_group;

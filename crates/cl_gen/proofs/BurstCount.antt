@@ -7,10 +7,8 @@ use Rattle.std.proofs.lemmas.Grind.{div_ceil_times}
 use Rattle.std.proofs.lemmas.Nat.{div-add-mod', mod_below}
 use Rattle.cl_model.specs.declared.stimulus.StimulusKind.TheVariants.{Burst}
 use Rattle.cl_runs.specs.Pattern.{IsPattern}
-use Rattle.cl_runs.proofs.PatternFacts.{burst_fits}
-use Rattle.cl_runs.proofs.BurstPlaces.{place_in, position_of, position_place, position_rises}
-use Rattle.cl_gen.specs.Arrivals.{arrivals_below}
-use Rattle.cl_gen.specs.Count.{arrival_count}
+use Rattle.cl_runs.proofs.{PatternFacts.burst_fits, BurstPlaces.{place_in, position_of, position_place, position_rises}}
+use Rattle.cl_gen.specs.{Arrivals.arrivals_below, Count.arrival_count}
 use Rattle.cl_gen.proofs.RisingArrivals.{above_from, below_is}
 
 module _ (period offset count distance : ℕ) (well : IsPattern (Burst period offset count distance)) where

@@ -5,19 +5,11 @@ use Rattle.std.proofs.Math.Nat.{mul-le-mul_right}
 use Rattle.std.proofs.lemmas.Bool.{cases_lt}
 use Rattle.std.proofs.lemmas.Grind.{div_ceil_times}
 use Rattle.std.proofs.lemmas.Nat.{div-add-mod', mod_below}
-use Rattle.cl_model.specs.declared.stimulus.StimulusKind.{StimulusKind}
-use Rattle.cl_model.specs.declared.stimulus.StimulusKind.TheVariants.{Periodic, Sporadic, Burst}
-use Rattle.cl_runs.specs.declared.job.Job.{Job}
-use Rattle.cl_runs.specs.Pattern.{IsPattern}
-use Rattle.cl_runs.specs.Arrivals.{FollowPattern}
-use Rattle.cl_runs.specs.ArrivalsByKind.{FollowsPeriod, FollowsGaps, FollowsBursts}
-use Rattle.cl_runs.specs.Table.{job_at}
-use Rattle.cl_runs.proofs.PatternLaws.{pattern_period, pattern_gaps}
-use Rattle.cl_runs.proofs.BurstLaws.{pattern_bursts}
-use Rattle.cl_gen.specs.Arrivals.{arrivals_below}
-use Rattle.cl_gen.specs.Count.{arrival_count}
+use Rattle.cl_model.specs.declared.stimulus.StimulusKind.{StimulusKind, TheVariants.{Periodic, Sporadic, Burst}}
+use Rattle.cl_runs.specs.{declared.job.Job.Job, Pattern.IsPattern, Arrivals.FollowPattern, ArrivalsByKind.{FollowsPeriod, FollowsGaps, FollowsBursts}, Table.job_at}
+use Rattle.cl_runs.proofs.{PatternLaws.{pattern_period, pattern_gaps}, BurstLaws.pattern_bursts, BurstPlaces.{position_of, position_rises}}
+use Rattle.cl_gen.specs.{Arrivals.arrivals_below, Count.arrival_count}
 use Rattle.cl_gen.proofs.RisingArrivals.{end_reached}
-use Rattle.cl_runs.proofs.BurstPlaces.{position_of, position_rises}
 
 -- where n is less than a width divided up, its product is less than the width
 counted : (n width step : ℕ) → 0 < step → n * step < width → n < div_ceil width step

@@ -1,12 +1,9 @@
 -- What is drawn for a job, kind by kind.
 use Rattle.std.proofs.Common.{◌≡◌, ℕ, zero, suc, ◌+◌, ◌-◌, ◌*◌, ◌/◌, ◌%◌, List, length, refl, ap, ◌∙◌, arith}
 use Rattle.cl_model.specs.declared.stimulus.StimulusKind.TheVariants.{Periodic, Sporadic, Burst}
-use Rattle.cl_runs.specs.Pattern.{IsPattern}
-use Rattle.cl_runs.specs.TaskTiming.{TimeRange}
+use Rattle.cl_runs.specs.{Pattern.IsPattern, TaskTiming.TimeRange}
 use Rattle.cl_runs.proofs.BurstPlaces.{position_of, position_place, position_gap}
-use Rattle.cl_gen.specs.Words.{draw}
-use Rattle.cl_gen.specs.Drawn.{drawn_times, drawn_arrival, drawn_job}
-use Rattle.cl_gen.specs.DrawnByKind.{IsDrawnAs}
+use Rattle.cl_gen.specs.{Words.draw, Drawn.{drawn_times, drawn_arrival, drawn_job}, DrawnByKind.IsDrawnAs}
 
 module _ (word : ℕ → ℕ) (from : ℕ) (ranges : List TimeRange) where
   periodic_arrival : (period offset jitter k : ℕ) → drawn_arrival word from (Periodic period offset jitter) ranges k ≡ offset + k * period

@@ -3,18 +3,11 @@ use Rattle.std.proofs.Common.{◌≡◌, ℕ, zero, suc, ◌+◌, ◌-◌, ◌<�
 use Rattle.std.specs.Prelude.{All}
 use Rattle.std.specs.List.{range_with_len, AllZip}
 use Rattle.std.proofs.lemmas.List.Elements.{All-map}
-use Rattle.cl_model.specs.declared.stimulus.StimulusKind.{StimulusKind}
-use Rattle.cl_model.specs.declared.stimulus.StimulusKind.TheVariants.{Periodic, Sporadic, Burst}
-use Rattle.cl_model.specs.Timing.{greatest_jitter}
-use Rattle.cl_runs.specs.declared.job.Job.{Job}
-use Rattle.cl_runs.specs.Pattern.{IsPattern, first_least, first_greatest, least_gap, greatest_gap}
-use Rattle.cl_runs.specs.Arrivals.{IsArrival, AreArrivalsFrom, FollowPattern}
-use Rattle.cl_runs.specs.TaskTiming.{TimeRange}
-use Rattle.cl_runs.specs.Table.{LiesIn}
+use Rattle.cl_model.specs.{declared.stimulus.StimulusKind.{StimulusKind, TheVariants.{Periodic, Sporadic, Burst}}, Timing.greatest_jitter}
+use Rattle.cl_runs.specs.{declared.job.Job.Job, Pattern.{IsPattern, first_least, first_greatest, least_gap, greatest_gap}, Arrivals.{IsArrival, AreArrivalsFrom, FollowPattern}, TaskTiming.TimeRange, Table.LiesIn}
 use Rattle.cl_runs.proofs.PatternFacts.{gap_positive}
 use Rattle.cl_gen.specs.Drawn.{arrival_words, first_arrival, gap_after, release_delay, drawn_times, job_word, drawn_arrival, drawn_job, drawn_count, drawn_jobs}
-use Rattle.cl_gen.proofs.RisingArrivals.{all_below, end_reached}
-use Rattle.cl_gen.proofs.Words.{draw_least, draw_greatest}
+use Rattle.cl_gen.proofs.{RisingArrivals.{all_below, end_reached}, Words.{draw_least, draw_greatest}}
 
 -- ---- what a word makes of a job
 

@@ -4,20 +4,11 @@ use Rattle.std.specs.List.{range_with_len}
 use Rattle.std.proofs.lemmas.Bool.{cases_lt}
 use Rattle.std.proofs.lemmas.Nat.{mul-le}
 use Rattle.std.proofs.lemmas.List.FromFn.{map-range_with_len_more}
-use Rattle.cl_model.specs.declared.limits.TheConstants.{MOST_TICKS, MOST_RUNNABLES}
-use Rattle.cl_model.specs.declared.stimulus.StimulusKind.{StimulusKind}
-use Rattle.cl_model.specs.declared.stimulus.StimulusKind.TheVariants.{Periodic, Sporadic, Burst}
-use Rattle.cl_model.specs.Ranges.{IsKindInRange}
-use Rattle.cl_model.specs.Timing.{greatest_jitter, greatest_distance}
-use Rattle.cl_runs.specs.declared.job.Job.{Job}
-use Rattle.cl_runs.specs.Pattern.{IsPattern}
-use Rattle.cl_runs.specs.TaskTiming.{TimeRange}
+use Rattle.cl_model.specs.{declared.{limits.TheConstants.{MOST_TICKS, MOST_RUNNABLES}, stimulus.StimulusKind.{StimulusKind, TheVariants.{Periodic, Sporadic, Burst}}}, Ranges.IsKindInRange, Timing.{greatest_jitter, greatest_distance}}
+use Rattle.cl_runs.specs.{declared.job.Job.Job, Pattern.IsPattern, TaskTiming.TimeRange}
 use Rattle.cl_runs.proofs.PatternFacts.{gap_positive, greatest_within}
-use Rattle.cl_gen.specs.declared.limits.TheConstants.{MOST_RUN_TICKS}
-use Rattle.cl_gen.specs.Drawn.{arrival_words, release_words, job_draws, first_arrival, gap_after, release_delay, job_word, drawn_arrival, drawn_job, drawn_count, drawn_jobs, word_after}
-use Rattle.cl_gen.specs.Inner.Arriving.{job_arriving}
-use Rattle.cl_gen.proofs.DrawnJobs.{delay_within, gap_least, gap_greatest, arrivals_rise}
-use Rattle.cl_gen.proofs.RisingArrivals.{number_below, below_is}
+use Rattle.cl_gen.specs.{declared.limits.TheConstants.MOST_RUN_TICKS, Drawn.{arrival_words, release_words, job_draws, first_arrival, gap_after, release_delay, job_word, drawn_arrival, drawn_job, drawn_count, drawn_jobs, word_after}, Inner.Arriving.job_arriving}
+use Rattle.cl_gen.proofs.{DrawnJobs.{delay_within, gap_least, gap_greatest, arrivals_rise}, RisingArrivals.{number_below, below_is}}
 
 -- ---- numbers that fit
 

@@ -2,8 +2,7 @@
 use Rattle.std.proofs.Common.{◌≡◌, ℕ, ◌+◌, ◌<◌, ◌≤◌, List, [], ◌∷◌, ◌++◌, length, get_or, drop, sym, ap, ◌∙◌, append_assoc}
 use Rattle.std.proofs.Math.ListN.{drop_of_length-le}
 use Rattle.std.proofs.lemmas.List.{drop_more, append-nil}
-use Rattle.cl_runs.specs.declared.job.Job.{Job}
-use Rattle.cl_runs.specs.TaskTiming.{Timing, no_timing}
+use Rattle.cl_runs.specs.{declared.job.Job.Job, TaskTiming.{Timing, no_timing}}
 use Rattle.cl_gen.specs.Drawn.{drawn_jobs, word_after, drawn_tasks}
 
 module _ (word : ℕ → ℕ) (ticks : ℕ) (tasks : List Timing) where

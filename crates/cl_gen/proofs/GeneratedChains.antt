@@ -6,20 +6,13 @@ use Rattle.std.specs.Option.{option_and_then}
 use Rattle.std.proofs.lemmas.Bool.{or_from, or_left}
 use Rattle.std.proofs.lemmas.List.FromFn.{get_or-map-range_with_len, length-map-range_with_len}
 use Rattle.std.proofs.lemmas.Option.{slice_get-get_or}
-use Rattle.cl_model.specs.declared.limits.TheConstants.{MOST_TASKS}
+use Rattle.cl_model.specs.{declared.{limits.TheConstants.MOST_TASKS, refusal.Code.TheVariants.{M44, M45}, task.RunnableDef.RunnableDef}, Named.{same_name, has_name, is_some_and, entry_named, runnable_names, runnable_named, all_runnables}, Place.{entry_of, at_key, at_spot}, Refusals.each}
+use Rattle.cl_model.specs.Validity.{step_check, step_of, misses_label, hop_check, lengths_check, chain_check}
 use Rattle.cl_model.specs.declared.place.Part.TheVariants as part
 use Rattle.cl_model.specs.declared.place.Key.TheVariants as key
-use Rattle.cl_model.specs.declared.refusal.Code.TheVariants.{M44, M45}
-use Rattle.cl_model.specs.declared.task.RunnableDef.{RunnableDef}
-use Rattle.cl_model.specs.Named.{same_name, has_name, is_some_and, entry_named, runnable_names, runnable_named, all_runnables}
-use Rattle.cl_model.specs.Place.{entry_of, at_key, at_spot}
-use Rattle.cl_model.specs.Refusals.{each}
-use Rattle.cl_model.specs.Validity.{step_check, step_of, misses_label, hop_check, lengths_check, chain_check}
 use Rattle.cl_model.proofs.NoRefusals.{none_in_order}
 use Rattle.cl_gen.specs.Generated.{label_name, runnable_name, generated_runnable, generated_chain, model_of_words}
-use Rattle.cl_gen.proofs.GeneratedParts.{runnables_are, runnable_names_are}
-use Rattle.cl_gen.proofs.GeneratedSections.{runnables_apart_below}
-use Rattle.cl_gen.proofs.PassingChecks.{not_refused, passed_by, each_shifted, among, entry_is}
+use Rattle.cl_gen.proofs.{GeneratedParts.{runnables_are, runnable_names_are}, GeneratedSections.runnables_apart_below, PassingChecks.{not_refused, passed_by, each_shifted, among, entry_is}}
 
 -- a name is the one name in a list of itself
 alone : (name : List ℕ) → has_name name (name ∷ []) ≡ true

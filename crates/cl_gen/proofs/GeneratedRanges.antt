@@ -7,20 +7,10 @@ use Rattle.std.proofs.lemmas.Bool.{cond_both}
 use Rattle.std.proofs.lemmas.List.{append-nil}
 use Rattle.std.proofs.lemmas.List.Elements.{All-cons}
 use Rattle.std.proofs.lemmas.List.FromFn.{get_or-map-range_with_len, length-map-range_with_len}
-use Rattle.cl_model.specs.declared.limits.TheConstants.{MOST_TASKS, MOST_REQUIRED}
-use Rattle.cl_model.specs.declared.chain.RequirementDef.{RequirementDef}
-use Rattle.cl_model.specs.declared.model.CoreDef.{CoreDef}
-use Rattle.cl_model.specs.declared.model.LabelDef.{LabelDef}
-use Rattle.cl_model.specs.declared.stimulus.StimulusDef.{StimulusDef}
-use Rattle.cl_model.specs.AreNamed.{IsRunnableNamed, IsTaskNamed, IsChainNamed, IsRequirementNamed, AreNamed}
-use Rattle.cl_model.specs.Name.{is_name_byte, IsName}
-use Rattle.cl_model.specs.Ranges.{IsKindInRange, IsRunnableInRange, IsTaskInRange, IsChainInRange, IsInRange}
-use Rattle.cl_gen.specs.Words.{draw}
-use Rattle.cl_gen.specs.Generated.{numbered, label_name, runnable_name, labels_read, periods, stimulus_number, generated_core, generated_stimulus, generated_label, generated_runnable, generated_task, generated_chain, model_of_words}
-use Rattle.cl_gen.proofs.GeneratedNames.{spelled_name}
-use Rattle.cl_gen.proofs.GeneratedSections.{few_cores, period_least, period_greatest}
-use Rattle.cl_gen.proofs.GeneratedTasks.{stimulus_below}
-use Rattle.cl_gen.proofs.Words.{draw_least, draw_greatest}
+use Rattle.cl_model.specs.{declared.{limits.TheConstants.{MOST_TASKS, MOST_REQUIRED}, chain.RequirementDef.RequirementDef, model.{CoreDef.CoreDef, LabelDef.LabelDef}, stimulus.StimulusDef.StimulusDef}, AreNamed.{IsRunnableNamed, IsTaskNamed, IsChainNamed, IsRequirementNamed, AreNamed}}
+use Rattle.cl_model.specs.{Name.{is_name_byte, IsName}, Ranges.{IsKindInRange, IsRunnableInRange, IsTaskInRange, IsChainInRange, IsInRange}}
+use Rattle.cl_gen.specs.{Words.draw, Generated.{numbered, label_name, runnable_name, labels_read, periods, stimulus_number, generated_core, generated_stimulus, generated_label, generated_runnable, generated_task, generated_chain, model_of_words}}
+use Rattle.cl_gen.proofs.{GeneratedNames.spelled_name, GeneratedSections.{few_cores, period_least, period_greatest}, GeneratedTasks.stimulus_below, Words.{draw_least, draw_greatest}}
 
 -- what holds of each number in a row holds of each element that is mapped over them
 all_mapped : {X : Type 0} (P : X → Type 0) (f : ℕ → X) (a n : ℕ) → ((i : ℕ) → a ≤ i → i < a + n → P (f i)) → All P (map f (range_with_len a n))

@@ -9,25 +9,15 @@ use Rattle.std.proofs.lemmas.Grind.{div_ceil_times}
 use Rattle.std.proofs.lemmas.List.{append-nil}
 use Rattle.std.proofs.lemmas.List.FromFn.{map-range_with_len_more}
 use Rattle.std.proofs.lemmas.List.Sums.{AllPass-from_list_all}
-use Rattle.cl_model.specs.declared.limits.TheConstants.{MOST_TASKS}
-use Rattle.cl_model.specs.declared.place.Part.{Part}
+use Rattle.cl_model.specs.{declared.{limits.TheConstants.MOST_TASKS, place.{Part.Part, Place.Place}, refusal.Code.{Code, TheVariants.{M20, M21, M22, M23, M24, M25, M26, M27}}, stimulus.{StimulusDef.StimulusDef, StimulusKind.TheVariants.Periodic}}, Named.{has_name, entry_named, core_names}}
+use Rattle.cl_model.specs.{Named.{stimulus_names, label_names, task_names, chain_names, requirement_names, kind_named}, Place.{entry_of, at_key, at_sub}, Refusals.{when, each}, ValidNames.{repeats, section_repeats, runnable_repeats, name_checks, offset_check, distance_check, burst_check}}
+use Rattle.cl_model.specs.ValidNames.{stimulus_checks}
 use Rattle.cl_model.specs.declared.place.Part.TheVariants as part
 use Rattle.cl_model.specs.declared.place.Key.TheVariants as key
-use Rattle.cl_model.specs.declared.place.Place.{Place}
-use Rattle.cl_model.specs.declared.refusal.Code.{Code}
-use Rattle.cl_model.specs.declared.refusal.Code.TheVariants.{M20, M21, M22, M23, M24, M25, M26, M27}
-use Rattle.cl_model.specs.declared.stimulus.StimulusDef.{StimulusDef}
-use Rattle.cl_model.specs.declared.stimulus.StimulusKind.TheVariants.{Periodic}
-use Rattle.cl_model.specs.Named.{has_name, entry_named, core_names, stimulus_names, label_names, task_names, chain_names, requirement_names, kind_named}
-use Rattle.cl_model.specs.Place.{entry_of, at_key, at_sub}
-use Rattle.cl_model.specs.Refusals.{when, each}
-use Rattle.cl_model.specs.ValidNames.{repeats, section_repeats, runnable_repeats, name_checks, offset_check, distance_check, burst_check, stimulus_checks}
-use Rattle.cl_model.proofs.ListFacts.{both_pass}
-use Rattle.cl_model.proofs.NoRefusals.{none_in_order}
+use Rattle.cl_model.proofs.{ListFacts.both_pass, NoRefusals.none_in_order}
 use Rattle.cl_gen.specs.Generated.{numbered, label_name, runnable_name, periods, generated_stimulus, generated_runnable, generated_task, model_of_words}
-use Rattle.cl_gen.proofs.ApartNames.{numbered_apart, labels_apart, runnables_apart}
-use Rattle.cl_gen.proofs.GeneratedParts.{tasks_are, core_names_are, stimulus_names_are, label_names_are, task_names_are, chain_names_are, first_runnable_names}
-use Rattle.cl_gen.proofs.PassingChecks.{not_refused, each_mapped, AreApartBelow, fresh, repeats_pass, entry_is}
+use Rattle.cl_gen.proofs.{ApartNames.{numbered_apart, labels_apart, runnables_apart}, GeneratedParts.{tasks_are, core_names_are, stimulus_names_are, label_names_are, task_names_are, chain_names_are, first_runnable_names}, PassingChecks.{not_refused, each_mapped, AreApartBelow, fresh}}
+use Rattle.cl_gen.proofs.PassingChecks.{repeats_pass, entry_is}
 
 -- ---- names over numbers in a row
 

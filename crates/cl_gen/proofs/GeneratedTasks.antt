@@ -8,29 +8,16 @@ use Rattle.std.proofs.lemmas.Bool.{and_right, ne_eqb, le-ltb, lt-leb, false_from
 use Rattle.std.proofs.lemmas.Grind.{div_ceil_times}
 use Rattle.std.proofs.lemmas.List.{append-nil}
 use Rattle.std.proofs.lemmas.List.FromFn.{take-map-range_with_len, map-range_with_len_more, length-map-range_with_len}
-use Rattle.cl_model.specs.declared.limits.TheConstants.{MOST_TASKS, MOST_TASKS_OF_CORE, MOST_RUNNABLES_OF_MODEL, MOST_DISTANCES}
+use Rattle.cl_model.specs.declared.{limits.TheConstants.{MOST_TASKS, MOST_TASKS_OF_CORE, MOST_RUNNABLES_OF_MODEL, MOST_DISTANCES}, place.Place.Place, refusal.Code.{Code, TheVariants.{M29, M30, M31, M32, M33, M34, M36, M37, M38, M40, M41, M42}}, stimulus.StimulusKind.StimulusKind}
+use Rattle.cl_model.specs.{declared.{stimulus.StimulusKind.TheVariants.Periodic, task.TaskDef.TaskDef}, Named.{same_name, has_name, is_some_and, core_names, label_names, kind_named, tasks_on, all_runnables, labels_written}, Place.{entry_of, at_key, at_sub, at_spot}, Refusals.each}
+use Rattle.cl_model.specs.{Timing.{least_distance, greatest_jitter, deadline_under}, ValidTasks.{task_key, core_check, stimulus_check, priority_check, late_check, release_check, room_check, empty_check, naming_checks, label_check, times_check, reads_check, writes_check, twice_check}}
+use Rattle.cl_model.specs.ValidTasks.{contest_check, runnable_checks, body_checks, count_check, task_check, task_checks, is_outpaced_by, spans_too_many, deadline_check, deadline_checks}
 use Rattle.cl_model.specs.declared.place.Part.TheVariants as part
 use Rattle.cl_model.specs.declared.place.Key.TheVariants as key
-use Rattle.cl_model.specs.declared.place.Place.{Place}
-use Rattle.cl_model.specs.declared.refusal.Code.{Code}
-use Rattle.cl_model.specs.declared.refusal.Code.TheVariants.{M29, M30, M31, M32, M33, M34, M36, M37, M38, M40, M41, M42}
-use Rattle.cl_model.specs.declared.stimulus.StimulusKind.{StimulusKind}
-use Rattle.cl_model.specs.declared.stimulus.StimulusKind.TheVariants.{Periodic}
-use Rattle.cl_model.specs.declared.task.TaskDef.{TaskDef}
-use Rattle.cl_model.specs.Named.{same_name, has_name, is_some_and, core_names, label_names, kind_named, tasks_on, all_runnables, labels_written}
-use Rattle.cl_model.specs.Place.{entry_of, at_key, at_sub, at_spot}
-use Rattle.cl_model.specs.Refusals.{each}
-use Rattle.cl_model.specs.Timing.{least_distance, greatest_jitter, deadline_under}
-use Rattle.cl_model.specs.ValidTasks.{task_key, core_check, stimulus_check, priority_check, late_check, release_check, room_check, empty_check, naming_checks, label_check, times_check, reads_check}
-use Rattle.cl_model.specs.ValidTasks.{writes_check, twice_check, contest_check, runnable_checks, body_checks, count_check, task_check, task_checks, is_outpaced_by, spans_too_many, deadline_check, deadline_checks}
 use Rattle.cl_model.proofs.NoRefusals.{none_in_order}
-use Rattle.cl_gen.specs.Words.{draw}
-use Rattle.cl_gen.specs.Generated.{numbered, label_name, labels_read, periods, stimulus_number, generated_runnable, generated_task, model_of_words}
-use Rattle.cl_gen.proofs.ApartNames.{numbered_apart}
-use Rattle.cl_gen.proofs.GeneratedParts.{tasks_are, core_names_are, label_names_are, first_runnables, first_labels}
-use Rattle.cl_gen.proofs.GeneratedSections.{labels_apart_below, period_least, period_greatest, kind_is}
-use Rattle.cl_gen.proofs.PassingChecks.{not_refused, passed_by, each_mapped, among, fresh, none_of_mapped, few_let_through}
-use Rattle.cl_gen.proofs.Words.{draw_least, draw_greatest}
+use Rattle.cl_gen.specs.{Words.draw, Generated.{numbered, label_name, labels_read, periods, stimulus_number, generated_runnable, generated_task, model_of_words}}
+use Rattle.cl_gen.proofs.{ApartNames.numbered_apart, GeneratedParts.{tasks_are, core_names_are, label_names_are, first_runnables, first_labels}, GeneratedSections.{labels_apart_below, period_least, period_greatest, kind_is}, PassingChecks.{not_refused, passed_by, each_mapped, among}}
+use Rattle.cl_gen.proofs.{PassingChecks.{fresh, none_of_mapped, few_let_through}, Words.{draw_least, draw_greatest}}
 
 -- the number of a task's stimulus
 pub stimulus_below : (word : ℕ → ℕ) (i : ℕ) → stimulus_number word i < 9

@@ -1,13 +1,9 @@
 -- Drawn job tables are lawful, whatever the words.
 use Rattle.std.proofs.Common.{◌≡◌, ℕ, zero, suc, ◌<◌, List, [], ◌∷◌, length, get_or, refl, ap, arith}
-use Rattle.cl_model.specs.declared.model.SystemModel.{SystemModel}
-use Rattle.cl_model.specs.Validity.{IsValid}
-use Rattle.cl_runs.specs.TaskTiming.{Timing, no_timing, IsSoundTask}
-use Rattle.cl_runs.specs.SystemOf.{system_of}
-use Rattle.cl_runs.specs.Table.{AreLawfulJobs, IsLawful}
+use Rattle.cl_model.specs.{declared.model.SystemModel.SystemModel, Validity.IsValid}
+use Rattle.cl_runs.specs.{TaskTiming.{Timing, no_timing, IsSoundTask}, SystemOf.system_of, Table.{AreLawfulJobs, IsLawful}}
 use Rattle.cl_runs.proofs.ModelSystem.{system_sound}
-use Rattle.cl_gen.specs.Words.{word_of}
-use Rattle.cl_gen.specs.Drawn.{drawn_jobs, word_after, drawn_tasks, drawn}
+use Rattle.cl_gen.specs.{Words.word_of, Drawn.{drawn_jobs, word_after, drawn_tasks, drawn}}
 use Rattle.cl_gen.proofs.DrawnJobs.{jobs_follow, jobs_have_times}
 
 jobs_lawful : (word : ℕ → ℕ) (ticks from cores : ℕ) (task : Timing) → IsSoundTask cores task

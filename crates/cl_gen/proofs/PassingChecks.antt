@@ -8,13 +8,7 @@ use Rattle.std.proofs.lemmas.Bool.{cases_lt, cond_both, cond-false, false_from_n
 use Rattle.std.proofs.lemmas.List.FromFn.{take-map-range_with_len, get_or-map-range_with_len, length-map-range_with_len}
 use Rattle.std.proofs.lemmas.List.Sums.{length-filter, count_by-le-length}
 use Rattle.std.proofs.lemmas.Option.{slice_get-get_or}
-use Rattle.cl_model.specs.declared.place.Place.{Place}
-use Rattle.cl_model.specs.declared.refusal.Code.{Code}
-use Rattle.cl_model.specs.declared.refusal.Refusal.{Refusal}
-use Rattle.cl_model.specs.Named.{same_name, has_name, index_of, entry_named}
-use Rattle.cl_model.specs.NameSets.{AreDistinctNames}
-use Rattle.cl_model.specs.Refusals.{when, unless, each_from, each}
-use Rattle.cl_model.specs.ValidNames.{repeat_check, repeats}
+use Rattle.cl_model.specs.{declared.{place.Place.Place, refusal.{Code.Code, Refusal.Refusal}}, Named.{same_name, has_name, index_of, entry_named}, NameSets.AreDistinctNames, Refusals.{when, unless, each_from, each}, ValidNames.{repeat_check, repeats}}
 use Rattle.cl_model.proofs.NamePlaces.{own_place}
 
 -- ---- checks that refuse nothing

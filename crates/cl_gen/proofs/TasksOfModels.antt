@@ -1,11 +1,7 @@
 -- The timing of a task of a model, by what is read of the task.
 use Rattle.std.proofs.Common.{◌≡◌, ℕ, ◌<◌, Bool, List, length, map, sym, ap, ◌∙◌}
-use Rattle.cl_model.specs.declared.model.SystemModel.{SystemModel}
-use Rattle.cl_model.specs.declared.stimulus.StimulusKind.{StimulusKind}
-use Rattle.cl_model.specs.declared.task.RunnableDef.{RunnableDef}
-use Rattle.cl_model.specs.ByNumber.{task_at, core_of, stimulus_of}
-use Rattle.cl_runs.specs.TaskTiming.{Timing, timing_at}
-use Rattle.cl_runs.specs.SystemOf.{range_of, system_of}
+use Rattle.cl_model.specs.{declared.{model.SystemModel.SystemModel, stimulus.StimulusKind.StimulusKind, task.RunnableDef.RunnableDef}, ByNumber.{task_at, core_of, stimulus_of}}
+use Rattle.cl_runs.specs.{TaskTiming.{Timing, timing_at}, SystemOf.{range_of, system_of}}
 use Rattle.cl_runs.proofs.ModelSystem.{timing_is, ranges_are}
 use Rattle.cl_run_data.specs.Parts.{is_among}
 

@@ -1,17 +1,9 @@
 -- A generated model is valid, whatever the words.
 use Rattle.std.proofs.Common.{◌≡◌, ℕ, ◌≤◌, [], ◌∷◌, refl}
-use Rattle.cl_model.specs.declared.limits.TheConstants.{MOST_TASKS}
-use Rattle.cl_model.specs.Refusals.{each}
-use Rattle.cl_model.specs.ValidNames.{name_checks, stimulus_checks}
-use Rattle.cl_model.specs.ValidTasks.{task_checks, deadline_checks}
-use Rattle.cl_model.specs.Validity.{chain_check, requirement_check, refusals_of, IsValid}
+use Rattle.cl_model.specs.{declared.limits.TheConstants.MOST_TASKS, Refusals.each, ValidNames.{name_checks, stimulus_checks}, ValidTasks.{task_checks, deadline_checks}, Validity.{chain_check, requirement_check, refusals_of, IsValid}}
 use Rattle.cl_model.proofs.NoRefusals.{none_in_order}
 use Rattle.cl_gen.specs.Generated.{generated_chain, model_of_words}
-use Rattle.cl_gen.proofs.GeneratedChains.{chain_passes}
-use Rattle.cl_gen.proofs.GeneratedRanges.{in_range}
-use Rattle.cl_gen.proofs.GeneratedSections.{names_pass, stimuli_pass}
-use Rattle.cl_gen.proofs.GeneratedTasks.{tasks_pass, deadlines_pass}
-use Rattle.cl_gen.proofs.PassingChecks.{each_mapped}
+use Rattle.cl_gen.proofs.{GeneratedChains.chain_passes, GeneratedRanges.in_range, GeneratedSections.{names_pass, stimuli_pass}, GeneratedTasks.{tasks_pass, deadlines_pass}, PassingChecks.each_mapped}
 
 module _ (word : ℕ → ℕ) (n : ℕ) (few : n ≤ MOST_TASKS) where
   chains_pass : each (chain_check (model_of_words word n)) (model_of_words word n).chains ≡ []

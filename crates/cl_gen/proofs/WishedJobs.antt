@@ -1,11 +1,8 @@
 -- Jobs that are wished for, one after the other: what holds so far, of one more, and of all.
 use Rattle.std.proofs.Common.{◌≡◌, ℕ, suc, ◌+◌, ◌<◌, ◌≤◌, List, [], ◌∷◌, ◌++◌, length, sym, ap, ◌∙◌, subst, arith, append_assoc, length-append}
 use Rattle.std.proofs.lemmas.List.{append-nil}
-use Rattle.cl_model.specs.declared.stimulus.StimulusKind.{StimulusKind}
-use Rattle.cl_model.specs.Timing.{greatest_jitter}
-use Rattle.cl_runs.specs.declared.job.Job.{Job}
-use Rattle.cl_runs.specs.Pattern.{first_least, first_greatest, least_gap, greatest_gap}
-use Rattle.cl_runs.specs.Arrivals.{IsArrival, AreArrivalsFrom, FollowPattern}
+use Rattle.cl_model.specs.{declared.stimulus.StimulusKind.StimulusKind, Timing.greatest_jitter}
+use Rattle.cl_runs.specs.{declared.job.Job.Job, Pattern.{first_least, first_greatest, least_gap, greatest_gap}, Arrivals.{IsArrival, AreArrivalsFrom, FollowPattern}}
 
 -- the jobs so far, where the next one arrives as is known, in [low, high]: whatever follows the pattern from there on, all
 -- together follow it

@@ -1,12 +1,10 @@
 -- Times that are wished for, runnable by runnable: what holds so far, of one more, and of all.
 use Rattle.std.proofs.Common.{◌≡◌, ℕ, ◌+◌, ◌<◌, ◌≤◌, List, [], ◌∷◌, ◌++◌, length, get_or, take, map, sym, ap, ◌∙◌, subst}
 use Rattle.std.specs.List.{AllZip}
-use Rattle.std.proofs.lemmas.List.{take_more, take_all, map-append}
+use Rattle.std.proofs.lemmas.List.{take_more, map-append}
 use Rattle.std.proofs.lemmas.Slice.Zip.{all_zipped_more}
 use Rattle.cl_model.specs.declared.task.RunnableDef.{RunnableDef}
-use Rattle.cl_runs.specs.TaskTiming.{TimeRange}
-use Rattle.cl_runs.specs.SystemOf.{range_of}
-use Rattle.cl_runs.specs.Table.{LiesIn}
+use Rattle.cl_runs.specs.{TaskTiming.TimeRange, SystemOf.range_of, Table.LiesIn}
 
 -- the times lie in the ranges of the first runnables
 abbrev pub LieInFirst : List RunnableDef → (n : ℕ) → List ℕ → Type 0
@@ -23,8 +21,3 @@ one_more_time runnables n runnable times more time lt is so_far is_more least gr
     subst (λ list. LieInFirst runnables (n + 1) list) (sym is_more)
     (subst (λ (rs : List TimeRange). AllZip LiesIn rs (times ++ time ∷ [])) (sym longer)
     (all_zipped_more LiesIn (map range_of (take n runnables)) times (range_of runnable) time so_far (least, greatest)))
-
-pub all_times : (runnables : List RunnableDef) (n : ℕ) (times : List ℕ) → length runnables ≤ n → LieInFirst runnables n times
-    → AllZip LiesIn (map range_of runnables) times
-all_times runnables n times end so_far =
-    subst (λ (rs : List RunnableDef). AllZip LiesIn (map range_of rs) times) (take_all n runnables end) so_far

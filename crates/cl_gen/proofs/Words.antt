@@ -1,8 +1,7 @@
 -- The words of a seed one after another, and the range of what a word draws.
 use Rattle.std.proofs.Common.{◌≡◌, ℕ, zero, suc, ◌+◌, ◌≤◌, refl, sym, ap, ◌∙◌, arith, add-one}
 use Rattle.rand_core.specs.Pcg32Seed.{pcg32_seed}
-use Rattle.rand_pcg.specs.Lcg.{Lcg, next, next_state, state_after, advance}
-use Rattle.rand_pcg.specs.Pcg.{multiplier_128, pcg64_of_seed}
+use Rattle.rand_pcg.specs.{Lcg.{Lcg, next, next_state, state_after, advance}, Pcg.{multiplier_128, pcg64_of_seed}}
 use Rattle.cl_gen.specs.Words.{generator_after, draw}
 
 -- one step after n steps is n + 1 steps

@@ -1,11 +1,8 @@
 -- How many executions of runnables a simulation is counted to have, before anything is drawn.
 use Rattle.std.specs.Prelude.{ℕ, ◌+◌, ◌-◌, ◌*◌, ◌/◌, ◌%◌, Bool, cond, List, length, sum_by}
 use Rattle.std.specs.Int.{div_ceil}
-use Rattle.cl_model.specs.declared.model.SystemModel.{SystemModel}
-use Rattle.cl_model.specs.declared.stimulus.StimulusKind.{StimulusKind}
-use Rattle.cl_model.specs.declared.stimulus.StimulusKind.TheVariants.{Periodic, Sporadic, Burst}
-use Rattle.cl_runs.specs.TaskTiming.{Timing}
-use Rattle.cl_runs.specs.SystemOf.{system_of}
+use Rattle.cl_model.specs.declared.{model.SystemModel.SystemModel, stimulus.StimulusKind.{StimulusKind, TheVariants.{Periodic, Sporadic, Burst}}}
+use Rattle.cl_runs.specs.{TaskTiming.Timing, SystemOf.system_of}
 use Rattle.cl_run_data.specs.Parts.{is_among}
 use Rattle.cl_gen.specs.Arrivals.{arrivals_below}
 

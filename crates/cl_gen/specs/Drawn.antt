@@ -2,16 +2,9 @@
 -- task and job by job.
 use Rattle.std.specs.Prelude.{ℕ, zero, suc, ◌+◌, ◌-◌, ◌*◌, List, [], ◌∷◌, length, map}
 use Rattle.std.specs.List.{range_with_len}
-use Rattle.cl_model.specs.declared.model.SystemModel.{SystemModel}
-use Rattle.cl_model.specs.declared.stimulus.StimulusKind.{StimulusKind}
-use Rattle.cl_model.specs.declared.stimulus.StimulusKind.TheVariants.{Periodic, Sporadic, Burst}
-use Rattle.cl_runs.specs.declared.job.Job.{Job}
-use Rattle.cl_runs.specs.declared.job.JobTable.{JobTable}
-use Rattle.cl_runs.specs.Pattern.{burst_gap}
-use Rattle.cl_runs.specs.TaskTiming.{TimeRange, Timing}
-use Rattle.cl_runs.specs.SystemOf.{system_of}
-use Rattle.cl_gen.specs.Words.{word_of, draw}
-use Rattle.cl_gen.specs.Arrivals.{arrivals_below}
+use Rattle.cl_model.specs.declared.{model.SystemModel.SystemModel, stimulus.StimulusKind.{StimulusKind, TheVariants.{Periodic, Sporadic, Burst}}}
+use Rattle.cl_runs.specs.{declared.job.{Job.Job, JobTable.JobTable}, Pattern.burst_gap, TaskTiming.{TimeRange, Timing}, SystemOf.system_of}
+use Rattle.cl_gen.specs.{Words.{word_of, draw}, Arrivals.arrivals_below}
 
 -- ---- the words of a job, in order: for its arrival, for its release, and one for the time of each runnable
 --

@@ -1,7 +1,6 @@
 -- What is drawn for a job, said of each kind of stimulus.
 use Rattle.std.specs.Prelude.{◌≡◌, ℕ, ◌+◌, List}
-use Rattle.cl_runs.specs.declared.job.Job.{Job}
-use Rattle.cl_runs.specs.TaskTiming.{TimeRange}
+use Rattle.cl_runs.specs.{declared.job.Job.Job, TaskTiming.TimeRange}
 use Rattle.cl_gen.specs.Drawn.{drawn_times}
 
 -- a job arrives at a tick, is released so much later, and its times are drawn by word n and those after it

@@ -2,8 +2,7 @@
 -- source: O'Neill's PCG XSL RR 128/64 as the crate `rand_pcg` seeds it; what a word draws is said here
 use Rattle.std.specs.Prelude.{ℕ, ◌+◌, ◌-◌, ◌%◌}
 use Rattle.rand_core.specs.Pcg32Seed.{pcg32_seed}
-use Rattle.rand_pcg.specs.Lcg.{Lcg, advance}
-use Rattle.rand_pcg.specs.Pcg.{multiplier_128, pcg64, pcg64_of_seed}
+use Rattle.rand_pcg.specs.{Lcg.{Lcg, advance}, Pcg.{multiplier_128, pcg64, pcg64_of_seed}}
 
 -- the generator of a seed, once so many words are taken
 unfoldable pub generator_after : (seed taken : ℕ) → Lcg

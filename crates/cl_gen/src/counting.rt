@@ -1,11 +1,7 @@
 //! The number of executions of runnables that is counted for a simulation. Times are in ticks.
 ghost use Rattle.std.specs.Prelude.{◌≡◌, ◌+◌, ◌*◌, ◌^◌, ◌<◌, ◌≤◌, length};
-ghost use Rattle.cl_model.specs.declared.stimulus.StimulusKind.TheVariants.{Burst};
-ghost use Rattle.cl_model.specs.Ranges.{IsKindInRange};
-ghost use Rattle.cl_model.specs.Timing.{IsKindOrdered};
-ghost use Rattle.cl_model.specs.Validity.{IsValid};
-ghost use Rattle.cl_runs.specs.TaskTiming.{timing_at};
-ghost use Rattle.cl_runs.specs.SystemOf.{system_of};
+ghost use Rattle.cl_model.specs.{declared.stimulus.StimulusKind.TheVariants.Burst, Ranges.IsKindInRange, Timing.IsKindOrdered, Validity.IsValid};
+ghost use Rattle.cl_runs.specs.{TaskTiming.timing_at, SystemOf.system_of};
 ghost use Rattle.cl_gen.specs.Count.{arrival_count, task_executions, execution_count, executions_of, executions_on};
 
 use crate::limits::MOST_RUN_TICKS;

@@ -1,13 +1,8 @@
 //! Drawing job tables. Times are in ticks.
 ghost use Rattle.std.specs.Prelude.{◌≡◌, ◌+◌, ◌<◌, ◌≤◌, ◌^◌, length, map, All, IfOk, OnOk};
-ghost use Rattle.cl_model.specs.declared.task.RunnableDef.{RunnableDef};
-ghost use Rattle.cl_model.specs.Ranges.{IsKindInRange, IsRunnableInRange};
-ghost use Rattle.cl_model.specs.Timing.{IsKindOrdered};
-ghost use Rattle.cl_runs.specs.TaskTiming.{timing_at};
-ghost use Rattle.cl_runs.specs.SystemOf.{range_of, system_of};
-ghost use Rattle.cl_gen.specs.Words.{word_of};
-ghost use Rattle.cl_gen.specs.Drawn.{arrival_words, release_words, first_arrival, gap_after, release_delay, drawn_times, drawn_jobs, word_after, drawn_tasks};
-ghost use Rattle.cl_gen.specs.Inner.Arriving.{job_arriving};
+ghost use Rattle.cl_model.specs.{declared.task.RunnableDef.RunnableDef, Ranges.{IsKindInRange, IsRunnableInRange}, Timing.IsKindOrdered};
+ghost use Rattle.cl_runs.specs.{TaskTiming.timing_at, SystemOf.{range_of, system_of}};
+ghost use Rattle.cl_gen.specs.{Words.word_of, Drawn.{arrival_words, release_words, first_arrival, gap_after, release_delay, drawn_times, drawn_jobs, word_after, drawn_tasks}, Inner.Arriving.job_arriving};
 
 use crate::draws::Draws;
 use crate::limits::MOST_RUN_TICKS;

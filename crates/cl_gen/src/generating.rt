@@ -2,10 +2,8 @@
 ghost use Rattle.std.specs.Prelude.{◌≡◌, ◌+◌, ◌*◌, ◌/◌, ◌%◌, ◌<◌, ◌≤◌, ◌^◌, ◌∷◌, [], length, map, slice_index, IfOk, OnOk};
 ghost use Rattle.std.specs.Int.{div_ceil};
 ghost use Rattle.std.specs.List.{range_with_len};
-ghost use Rattle.cl_model.specs.AreNamed.{AreNamed};
-ghost use Rattle.cl_model.specs.Validity.{IsValid};
-ghost use Rattle.cl_gen.specs.Words.{word_of};
-ghost use Rattle.cl_gen.specs.Generated.{runnable_name, label_name, access_of, generated_core, generated_stimulus, generated_label, generated_runnable, generated_task, generated_chain, generated, runnable_with, stimulus_number, periods};
+ghost use Rattle.cl_model.specs.{AreNamed.AreNamed, Validity.IsValid};
+ghost use Rattle.cl_gen.specs.{Words.word_of, Generated.{runnable_name, label_name, access_of, generated_core, generated_stimulus, generated_label, generated_runnable, generated_task, generated_chain, generated, runnable_with, stimulus_number, periods}};
 
 use crate::draws::Draws;
 use crate::names::{label_name, labels_read, labels_written, numbered, runnable_name};

@@ -1,23 +1,9 @@
 //! What holds of drawn job tables, of tables of all cores and of generated models.
 ghost use Rattle.std.specs.Prelude.{◌≡◌, ◌<◌, ◌≤◌, ◌+◌, ◌-◌, ◌*◌, ◌/◌, ◌%◌, ℕ, suc, Bool, true, List, length};
-ghost use Rattle.cl_model.specs.declared.model.SystemModel.{SystemModel};
-ghost use Rattle.cl_model.specs.declared.stimulus.StimulusKind.{StimulusKind};
-ghost use Rattle.cl_model.specs.declared.stimulus.StimulusKind.TheVariants.{Periodic, Sporadic, Burst};
-ghost use Rattle.cl_model.specs.AreNamed.{AreNamed};
-ghost use Rattle.cl_model.specs.Validity.{IsValid};
-ghost use Rattle.cl_runs.specs.declared.job.Job.{Job};
-ghost use Rattle.cl_runs.specs.declared.job.JobTable.{JobTable};
-ghost use Rattle.cl_runs.specs.Pattern.{IsPattern};
-ghost use Rattle.cl_runs.specs.Arrivals.{FollowPattern};
-ghost use Rattle.cl_runs.specs.TaskTiming.{TimeRange, System, IsSound};
-ghost use Rattle.cl_runs.specs.SystemOf.{system_of};
-ghost use Rattle.cl_runs.specs.Table.{IsLawful};
+ghost use Rattle.cl_model.specs.{declared.{model.SystemModel.SystemModel, stimulus.StimulusKind.{StimulusKind, TheVariants.{Periodic, Sporadic, Burst}}}, AreNamed.AreNamed, Validity.IsValid};
+ghost use Rattle.cl_runs.specs.{declared.job.{Job.Job, JobTable.JobTable}, Pattern.IsPattern, Arrivals.FollowPattern, TaskTiming.{TimeRange, System, IsSound}, SystemOf.system_of, Table.IsLawful};
 ghost use Rattle.cl_run_data.specs.Parts.{is_among, IsLawfulOn};
-ghost use Rattle.cl_gen.specs.Count.{arrival_count};
-ghost use Rattle.cl_gen.specs.Words.{draw};
-ghost use Rattle.cl_gen.specs.Drawn.{drawn_job, drawn};
-ghost use Rattle.cl_gen.specs.DrawnByKind.{IsDrawnAs};
-ghost use Rattle.cl_gen.specs.Generated.{generated};
+ghost use Rattle.cl_gen.specs.{Count.arrival_count, Words.draw, Drawn.{drawn_job, drawn}, DrawnByKind.IsDrawnAs, Generated.generated};
 
 use cl_model::MOST_TASKS;
 

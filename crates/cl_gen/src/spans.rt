@@ -1,7 +1,6 @@
 //! Spans of ticks: what wishes are clamped to, and when the jobs of a pattern may arrive.
 ghost use Rattle.std.specs.Prelude.{◌≡◌, ◌≤◌, max, min};
-ghost use Rattle.cl_model.specs.Ranges.{IsKindInRange};
-ghost use Rattle.cl_model.specs.Timing.{IsKindOrdered};
+ghost use Rattle.cl_model.specs.{Ranges.IsKindInRange, Timing.IsKindOrdered};
 ghost use Rattle.cl_runs.specs.Pattern.{first_least, first_greatest, burst_gap, least_gap, greatest_gap};
 
 use cl_model::{MOST_TICKS, StimulusKind};

@@ -1,9 +1,7 @@
 //! Drawing the job table of a model.
 ghost use Rattle.std.specs.Prelude.{◌≡◌, ◌<◌, ◌≤◌, Err, IfOk, IfErr};
-ghost use Rattle.cl_runs.specs.SystemOf.{system_of};
-ghost use Rattle.cl_runs.specs.Table.{IsLawful};
-ghost use Rattle.cl_gen.specs.Count.{execution_count};
-ghost use Rattle.cl_gen.specs.Drawn.{drawn};
+ghost use Rattle.cl_runs.specs.{SystemOf.system_of, Table.IsLawful};
+ghost use Rattle.cl_gen.specs.{Count.execution_count, Drawn.drawn};
 
 use crate::counting::execution_count;
 use crate::drawing::draw_tasks;

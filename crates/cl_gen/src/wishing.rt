@@ -2,14 +2,8 @@
 //! is wished. Times are in ticks.
 ghost use Rattle.std.specs.Prelude.{◌≡◌, ◌+◌, ◌<◌, ◌≤◌, true, false, [], length, map, All, IfOk};
 ghost use Rattle.std.specs.List.{AllZip};
-ghost use Rattle.cl_model.specs.declared.task.RunnableDef.{RunnableDef};
-ghost use Rattle.cl_model.specs.Ranges.{IsKindInRange};
-ghost use Rattle.cl_model.specs.Timing.{IsKindOrdered, greatest_jitter};
-ghost use Rattle.cl_runs.specs.declared.job.Job.{Job};
-ghost use Rattle.cl_runs.specs.Arrivals.{FollowPattern};
-ghost use Rattle.cl_runs.specs.TaskTiming.{timing_at};
-ghost use Rattle.cl_runs.specs.SystemOf.{range_of, system_of};
-ghost use Rattle.cl_runs.specs.Table.{LiesIn, AreLawfulJobs};
+ghost use Rattle.cl_model.specs.{declared.task.RunnableDef.RunnableDef, Ranges.IsKindInRange, Timing.{IsKindOrdered, greatest_jitter}};
+ghost use Rattle.cl_runs.specs.{declared.job.Job.Job, Arrivals.FollowPattern, TaskTiming.timing_at, SystemOf.{range_of, system_of}, Table.{LiesIn, AreLawfulJobs}};
 ghost use Rattle.cl_run_data.specs.Parts.{is_among, IsLawfulOn, HasNoOtherJobs};
 ghost use Rattle.cl_gen.specs.Inner.WishedTasks.{AreWishedOf};
 

@@ -1,9 +1,8 @@
 -- The commands that `help` tells of, and what it says of each.
 use Rattle.std.specs.Prelude.{ℕ, List, if◌then◌else◌, Option, Some, None, codes}
 use Rattle.std.specs.Str.{bytes_eq}
-use Rattle.cl_help.specs.declared.topic.Topic.{Topic}
+use Rattle.cl_help.specs.declared.{topic.Topic.Topic, texts.TheConstants.{ANALYSE, TIGHTEN, VERIFY, EXPLAIN, WITNESS, WHY, CHECK, CUT, ORDER, HEADROOM, MARGIN, MIGRATE, EDIT, APPLY, SIMULATE, REPLAY, OBSERVE, DRAW, GENERATE, SURVEY, HELP, VERSION}}
 use Rattle.cl_help.specs.declared.topic.Topic.TheVariants as topic
-use Rattle.cl_help.specs.declared.texts.TheConstants.{ANALYSE, TIGHTEN, VERIFY, EXPLAIN, WITNESS, WHY, CHECK, CUT, ORDER, HEADROOM, MARGIN, MIGRATE, EDIT, APPLY, SIMULATE, REPLAY, OBSERVE, DRAW, GENERATE, SURVEY, HELP, VERSION}
 
 -- the command of a verb
 abbrev pub topic_of : List ℕ → Option Topic

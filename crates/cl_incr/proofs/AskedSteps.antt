@@ -1,5 +1,5 @@
 -- The steps that were counted, one task or chain after the other.
-use Rattle.std.proofs.Common.{◌≡◌, ℕ, ◌+◌, ◌<◌, ◌≤◌, inl, inr, Bool, true, false, cond, List, [], ◌∷◌, ◌++◌, length, get_or, refl, sym, subst, ap, ◌∙◌, arith, length-append, ltb}
+use Rattle.std.proofs.Common.{◌≡◌, ℕ, ◌+◌, ◌<◌, ◌≤◌, inl, inr, true, false, List, [], ◌∷◌, ◌++◌, length, get_or, refl, ap, ◌∙◌, arith, length-append, ltb}
 use Rattle.std.specs.Prelude.{All}
 use Rattle.std.specs.List.Sorted.{IsStrictlyIncreasing}
 use Rattle.std.proofs.lemmas.Bool.{ltb-true, ltb-false}
@@ -7,8 +7,7 @@ use Rattle.std.proofs.lemmas.List.{get_or_append_left}
 use Rattle.std.proofs.lemmas.List.Elements.{All-append, All-nil, All-cons}
 use Rattle.std.proofs.Math.Seq.{get_or-append_seam}
 use Rattle.cl_model.specs.declared.model.SystemModel.{SystemModel}
-use Rattle.cl_incr.specs.Changed.{IsChangedTask, IsChangedChain, AsksForChanges}
-use Rattle.cl_incr.specs.Inner.Asked.{AsksBelow, AsksOne, AsksTasks, AsksChains}
+use Rattle.cl_incr.specs.{Changed.{IsChangedTask, IsChangedChain, AsksForChanges}, Inner.Asked.{AsksBelow, AsksOne, AsksTasks, AsksChains}}
 
 -- ---- a list with one more number
 
@@ -38,12 +37,6 @@ module _ (numbers : List ℕ) (n : ℕ) (below : All (λ number. number < n) num
   below_next = All-append (λ number. number < n + 1) numbers (n ∷ [])
       (λ k d within. omega (arith, below k d within))
       (All-cons (λ number. number < n + 1) n [] (omega arith) (All-nil (λ number. number < n + 1)))
-
--- it rises where the number stands behind the others unless a test holds
-pub rising_unless : (numbers longer : List ℕ) (n : ℕ) (b : Bool) → longer ≡ cond b numbers (numbers ++ n ∷ []) → All (λ number. number < n) numbers
-    → IsStrictlyIncreasing numbers → IsStrictlyIncreasing longer
-rising_unless numbers longer n true is below rising = subst IsStrictlyIncreasing (sym is) rising
-rising_unless numbers longer n false is below rising = subst IsStrictlyIncreasing (sym is) (rising_more numbers n below rising)
 
 -- ---- the steps
 

@@ -8,37 +8,17 @@ use Rattle.std.proofs.lemmas.List.{map-append, map-id, get_or_append_left, get_o
 use Rattle.std.proofs.lemmas.List.Edits.{length-remove}
 use Rattle.std.proofs.lemmas.List.Elements.{All-nil, filter-append}
 use Rattle.std.proofs.lemmas.Simd.{map-map}
-use Rattle.cl_model.specs.declared.model.SystemModel.{SystemModel}
-use Rattle.cl_model.specs.declared.chain.ChainDef.{ChainDef}
-use Rattle.cl_model.specs.declared.group.Group.{Group}
-use Rattle.cl_model.specs.declared.task.TaskDef.{TaskDef}
-use Rattle.cl_model.specs.ByNumber.{no_task, no_chain, core_of}
-use Rattle.cl_model.specs.Changes.{with_new_task, without_task, with_new_chain, without_chain}
-use Rattle.cl_model.specs.Groups.{groups_of, groups_at, IsGroupOf}
-use Rattle.cl_model.specs.TaskNumbers.{group_without}
-use Rattle.cl_model.specs.Validity.{IsValid}
-use Rattle.cl_model.proofs.AddedTasks.{maps_agree_on, groups_kept}
-use Rattle.cl_model.proofs.DroppedTasks.{groups_moved, groups_of_others_at}
-use Rattle.cl_model.proofs.GroupFacts.{groups_at_are}
-use Rattle.cl_runs.specs.SystemOf.{timing_of, system_of}
-use Rattle.cl_runs.specs.TaskTiming.{Timing, System, no_timing, timing_at}
+use Rattle.cl_model.specs.{declared.{model.SystemModel.SystemModel, chain.ChainDef.ChainDef, group.Group.Group, task.TaskDef.TaskDef}, ByNumber.{no_task, no_chain, core_of}, Changes.{with_new_task, without_task, with_new_chain, without_chain}, Groups.{groups_of, groups_at, IsGroupOf}}
+use Rattle.cl_model.specs.{TaskNumbers.group_without, Validity.IsValid}
+use Rattle.cl_model.proofs.{AddedTasks.{maps_agree_on, groups_kept}, DroppedTasks.{groups_moved, groups_of_others_at}, GroupFacts.groups_at_are}
+use Rattle.cl_runs.specs.{SystemOf.{timing_of, system_of}, TaskTiming.{Timing, System, no_timing, timing_at}}
 use Rattle.cl_runs.proofs.ModelSystem.{count_is}
 use Rattle.cl_resp.specs.Question.{question_of}
 use Rattle.cl_bound.specs.Answers.{answers_of, answer_at}
-use Rattle.cl_edit.specs.declared.change.Change.{Change}
-use Rattle.cl_edit.specs.declared.change.Change.TheVariants.{AddTask, DropTask, AddChain, DropChain}
-use Rattle.cl_edit.specs.Changing.{with_change, IsChangeOf}
-use Rattle.cl_incr.specs.declared.chains.ChainFindings.{ChainFindings}
-use Rattle.cl_incr.specs.Inner.Kept.{AreFoundOf}
-use Rattle.cl_incr.specs.declared.shift.Shift.TheVariants.{Stays, At}
-use Rattle.cl_incr.specs.Inner.Reach.{HadTiming, StandsAsBefore, HadQuestion, KeepQuestionsOff, MovesTasks, ChainsStay, AddsChain, DropsChain}
-use Rattle.cl_incr.specs.Inner.Shift.{number_before, moved_count, group_before}
-use Rattle.cl_incr.proofs.SameCores.{on_core, same_question}
-use Rattle.cl_incr.proofs.Mended.{core_is}
-use Rattle.cl_incr.proofs.NumbersBefore.{before_below, before_above, before_without}
-use Rattle.cl_incr.proofs.ShiftedLists.{without_at, without_within}
-use Rattle.cl_incr.proofs.Touching.{one_known}
-use Rattle.cl_incr.proofs.SameChains.{stays_found}
+use Rattle.cl_edit.specs.{declared.change.Change.{Change, TheVariants.{AddTask, DropTask, AddChain, DropChain}}, Changing.{with_change, IsChangeOf}}
+use Rattle.cl_incr.specs.{declared.{chains.ChainFindings.ChainFindings, shift.Shift.TheVariants.{Stays, At}}, Inner.{Kept.AreFoundOf, Reach.{HadTiming, StandsAsBefore, HadQuestion, KeepQuestionsOff, MovesTasks, ChainsStay, AddsChain, DropsChain}, Shift.{number_before, moved_count}}}
+use Rattle.cl_incr.specs.Inner.Shift.{group_before}
+use Rattle.cl_incr.proofs.{SameCores.{on_core, same_question}, Mended.core_is, NumbersBefore.{before_below, before_above, before_without}, ShiftedLists.{without_at, without_within}, Touching.one_known, SameChains.stays_found}
 
 -- ---- lists with one item more or less
 

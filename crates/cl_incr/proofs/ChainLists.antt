@@ -2,44 +2,17 @@
 use Rattle.std.proofs.Common.{◌≡◌, ℕ, ◌<◌, inl, inr, List, [], ◌∷◌, ◌++◌, length, sym, ap, ◌∙◌, subst, arith}
 use Rattle.std.specs.Prelude.{remove}
 use Rattle.std.proofs.lemmas.Bool.{cases_lt}
-use Rattle.std.proofs.lemmas.List.{get_or_append_left, get_or_push, length_push, length-map, ext_get_or}
-use Rattle.std.proofs.lemmas.List.Edits.{length-remove, get_or-remove_below}
+use Rattle.std.proofs.lemmas.List.{get_or_append_left, get_or_push, length_push, length-map}
+use Rattle.std.proofs.lemmas.List.Edits.{length-remove}
 use Rattle.cl_model.specs.declared.model.SystemModel.{SystemModel}
 use Rattle.cl_bound.specs.Answers.{answers_of}
-use Rattle.cl_analyse.specs.declared.findings.ChainAnswer.{ChainAnswer}
-use Rattle.cl_analyse.specs.declared.findings.ChainAnswer.TheVariants.{Late}
-use Rattle.cl_analyse.specs.declared.findings.ExactAnswer.{ExactAnswer}
-use Rattle.cl_analyse.specs.declared.findings.ExactAnswer.TheVariants.{ChainLate}
-use Rattle.cl_analyse.specs.declared.findings.Findings.{Findings}
-use Rattle.cl_analyse.specs.ChainAnswers.{chain_answer_of, AreExactAnswers}
-use Rattle.cl_analyse.specs.Verdicts.{verdict_of, verdicts_of}
-use Rattle.cl_analyse.specs.Findings.{AreFindings}
-use Rattle.cl_incr.specs.declared.chains.ChainFindings.{ChainFindings}
-use Rattle.cl_incr.specs.Inner.Kept.{AreFoundOf}
-use Rattle.cl_incr.specs.Inner.Put.{found_at}
-use Rattle.cl_incr.specs.Inner.Reach.{AddsChain, DropsChain}
-use Rattle.cl_incr.specs.Inner.Shift.{number_before}
-use Rattle.cl_incr.proofs.NumbersBefore.{before_below}
-use Rattle.cl_incr.proofs.ShiftedLists.{without_at, without_within}
-use Rattle.cl_incr.proofs.NewFindings.{was_found, are_chain_answers, are_exact_answers}
-
--- the last item taken out again leaves what was there
-pub without_last : {X : Type 0} (xs : List X) (x : X) → remove (xs ++ x ∷ []) (length xs) ≡ xs
-without_last xs x =
-    let there : length xs < length (xs ++ x ∷ []) = omega (arith, length_push xs x) in
-    ext_get_or x (remove (xs ++ x ∷ []) (length xs)) xs (omega (arith, length-remove (xs ++ x ∷ []) (length xs) there, length_push xs x))
-    (λ k within.
-    let below : k < length xs = omega (arith, within, length-remove (xs ++ x ∷ []) (length xs) there, length_push xs x) in
-    get_or-remove_below (xs ++ x ∷ []) (length xs) x k below there ∙ get_or_append_left xs (x ∷ []) x k below)
+use Rattle.cl_analyse.specs.{declared.findings.{ChainAnswer.{ChainAnswer, TheVariants.Late}, ExactAnswer.{ExactAnswer, TheVariants.ChainLate}, Findings.Findings}, ChainAnswers.{chain_answer_of, AreExactAnswers}, Verdicts.verdicts_of, Findings.AreFindings}
+use Rattle.cl_incr.specs.{declared.chains.ChainFindings.ChainFindings, Inner.{Kept.AreFoundOf, Put.found_at, Reach.{AddsChain, DropsChain}, Shift.number_before}}
+use Rattle.cl_incr.proofs.{NumbersBefore.before_below, ShiftedLists.{without_at, without_within}, NewFindings.{was_found, are_chain_answers, are_exact_answers}}
 
 module _ (old new : SystemModel) (before : Findings) (are : AreFindings old before) where
   pub chain_count : length before.chains ≡ length old.chains
   chain_count = ap length are.chains ∙ length-map old.chains (chain_answer_of old)
-
-  -- as many verdicts as requirements
-  pub verdict_count : old.requirements ≡ new.requirements → length before.verdicts ≡ length new.requirements
-  verdict_count same =
-      ap length are.verdicts ∙ length-map old.requirements (verdict_of old before.chains before.exacts) ∙ ap length same
 
   module _ (adds : AddsChain old new) (found : ChainFindings) (is : AreFoundOf new (length old.chains) found) where
     abbrev longer_chains : List ChainAnswer

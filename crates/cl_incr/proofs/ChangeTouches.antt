@@ -1,15 +1,8 @@
 -- What the changes that keep all numbers touch, by their kinds.
 use Rattle.std.proofs.Common.{◌≡◌, ℕ, ◌<◌, ◌⊎◌, Bool, List, [], ◌∷◌, length, refl, sym, ap, ◌∙◌, subst}
 use Rattle.std.specs.Prelude.{map, All, Contains, Option}
-use Rattle.cl_model.specs.declared.changes.TaskPriority.{TaskPriority}
-use Rattle.cl_model.specs.declared.model.SystemModel.{SystemModel}
-use Rattle.cl_model.specs.declared.stimulus.StimulusKind.{StimulusKind}
-use Rattle.cl_model.specs.declared.task.AccessKind.{AccessKind}
-use Rattle.cl_model.specs.declared.group.Step.{Step}
-use Rattle.cl_model.specs.ByNumber.{task_at, runnable_at, stimulus_of}
-use Rattle.cl_edit.specs.declared.change.Change.{Change}
-use Rattle.cl_edit.specs.declared.change.Change.TheVariants.{Range, Whole, Stimulus, Deadline, Priorities, Move, Access, Nothing}
-use Rattle.cl_edit.specs.Changing.{with_change, IsChangeOf}
+use Rattle.cl_model.specs.{declared.{changes.TaskPriority.TaskPriority, model.SystemModel.SystemModel, stimulus.StimulusKind.StimulusKind, task.AccessKind.AccessKind, group.Step.Step}, ByNumber.{task_at, runnable_at, stimulus_of}}
+use Rattle.cl_edit.specs.{declared.change.Change.{Change, TheVariants.{Range, Whole, Stimulus, Deadline, Priorities, Move, Access, Nothing}}, Changing.{with_change, IsChangeOf}}
 use Rattle.cl_incr.specs.Touched.{Touches}
 use Rattle.cl_incr.proofs.Touching.{task_touches, runnable_touches, kind_touches, none_touched, priorities_touch}
 

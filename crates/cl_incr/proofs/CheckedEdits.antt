@@ -1,17 +1,9 @@
 -- What the checks of an edit say of the edited model.
 use Rattle.std.proofs.Common.{◌≡◌, ℕ, ap, ◌∙◌, subst, sym}
 use Rattle.std.specs.Prelude.{Result, Ok, Err, IfOk, IfErr}
-use Rattle.cl_model.specs.declared.model.SystemModel.{SystemModel}
-use Rattle.cl_model.specs.declared.model_fault.ModelFault.{ModelFault}
-use Rattle.cl_model.specs.declared.model_fault.ModelFault.TheVariants.{Refused}
-use Rattle.cl_model.specs.declared.refusal.Refusal.{Refusal}
-use Rattle.cl_model.specs.Answers.{IsFaultOf, Answers}
-use Rattle.cl_edit.specs.declared.change.Change.{Change}
-use Rattle.cl_edit.specs.declared.edit.Edit.{Edit}
-use Rattle.cl_edit.specs.Changing.{with_change, change_of}
-use Rattle.cl_edit.specs.Edited.{with_edit, edited}
-use Rattle.cl_edit.proofs.CheckedEdits.{checks_of_edit, made_where_passes, refused_where_fault}
-use Rattle.cl_edit.proofs.EditedValid.{made_is}
+use Rattle.cl_model.specs.{declared.{model.SystemModel.SystemModel, model_fault.ModelFault.{ModelFault, TheVariants.Refused}, refusal.Refusal.Refusal}, Answers.{IsFaultOf, Answers}}
+use Rattle.cl_edit.specs.{declared.{change.Change.Change, edit.Edit.Edit}, Changing.{with_change, change_of}, Edited.{with_edit, edited}}
+use Rattle.cl_edit.proofs.{CheckedEdits.{checks_of_edit, made_where_passes, refused_where_fault}, EditedValid.made_is}
 use Rattle.cl_incr.specs.Changed.{AsksForChanges}
 
 module _ (model : SystemModel) (edit : Edit) where

@@ -2,29 +2,13 @@
 use Rattle.std.proofs.Common.{◌≡◌, ◌≢◌, ℕ, ◌+◌, ◌<◌, ◌≤◌, inl, inr, List, length, get_or, refl, sym, ap, ◌∙◌, subst, arith, Some, None}
 use Rattle.std.proofs.lemmas.List.{get_or-map, get_or_default}
 use Rattle.std.proofs.Math.ListN.{length-map}
-use Rattle.cl_model.specs.declared.model.SystemModel.{SystemModel}
-use Rattle.cl_model.specs.ByNumber.{task_at, chain_at, task_named, chain_named}
-use Rattle.cl_model.specs.Validity.{IsValid}
-use Rattle.cl_runs.specs.SystemOf.{system_of}
-use Rattle.cl_runs.specs.TaskTiming.{no_timing, timing_at}
+use Rattle.cl_model.specs.{declared.model.SystemModel.SystemModel, ByNumber.{task_at, chain_at, task_named}, Validity.IsValid}
+use Rattle.cl_runs.specs.{SystemOf.system_of, TaskTiming.{no_timing, timing_at}}
 use Rattle.cl_runs.proofs.ModelSystem.{count_is}
-use Rattle.cl_bound.specs.declared.answer.TaskAnswer.{TaskAnswer}
-use Rattle.cl_bound.specs.declared.answer.TaskAnswer.TheVariants.{Late as Unanswered}
-use Rattle.cl_bound.specs.Answers.{answer_to, answer_at, answers_of}
-use Rattle.cl_analyse.specs.Headline.{question_at}
-use Rattle.cl_analyse.specs.declared.findings.ChainAnswer.{ChainAnswer}
-use Rattle.cl_analyse.specs.declared.findings.ChainAnswer.TheVariants.{Late}
-use Rattle.cl_analyse.specs.declared.findings.ExactAnswer.{ExactAnswer}
-use Rattle.cl_analyse.specs.declared.findings.ExactAnswer.TheVariants.{ChainLate}
-use Rattle.cl_analyse.specs.declared.findings.Findings.{Findings}
-use Rattle.cl_analyse.specs.ChainAnswers.{OnLate, chain_answer_of, exact_answer_at, IsExactAnswer}
-use Rattle.cl_analyse.specs.Findings.{AreFindings}
+use Rattle.cl_bound.specs.{declared.answer.TaskAnswer.{TaskAnswer, TheVariants.Late as Unanswered}, Answers.{answer_to, answer_at, answers_of}}
+use Rattle.cl_analyse.specs.{Headline.question_at, declared.findings.{ChainAnswer.{ChainAnswer, TheVariants.Late}, ExactAnswer.{ExactAnswer, TheVariants.ChainLate}, Findings.Findings}, ChainAnswers.{OnLate, chain_answer_of, exact_answer_at, IsExactAnswer}, Findings.AreFindings}
 use Rattle.cl_analyse.proofs.AnswerLists.{chain_answer_found}
-use Rattle.cl_incr.specs.Questions.{ChainQuestion, chain_question}
-use Rattle.cl_incr.specs.Changed.{IsChangedTask, IsChangedChain}
-use Rattle.cl_incr.specs.declared.chains.ChainFindings.{ChainFindings}
-use Rattle.cl_incr.specs.Inner.Kept.{AreBothAsked, AreFoundOf}
-use Rattle.cl_incr.specs.Inner.Asked.{AsksOne}
+use Rattle.cl_incr.specs.{Questions.chain_question, Changed.{IsChangedTask, IsChangedChain}, declared.chains.ChainFindings.ChainFindings, Inner.{Kept.{AreBothAsked, AreFoundOf}, Asked.AsksOne}}
 use Rattle.cl_incr.proofs.ByQuestions.{same_answers, chain_answers_same, exact_answers_same, late_where_not_asked}
 
 one_number : (one other : ℕ) → Some one ≡ Some other → one ≡ other
@@ -100,27 +84,6 @@ module _ (old new : SystemModel) (chain : ℕ) where
         bounds = was.bounds ∙ chain_answers_same old new before chain asked.question asked.old_asks asked.new_asks;
         exact = exact_answers_same old new valid before chain within asked.question asked.old_asks asked.new_asks found.exact was.exact;
       }
-
-  -- a chain that wasn't there, or had another question
-  pub new_chain : chain < length new.chains → chain_named old (chain_at new chain).name ≡ None → IsChangedChain old new chain
-  new_chain is_chain none = record { is_chain = is_chain; changed = λ before named. absurd cc }
-
-  asked_by_both : (before : ℕ) (question : ChainQuestion) → chain_question new chain ≡ Some question → chain_question old before ≡ chain_question new chain
-      → AreBothAsked (chain_question old before) (chain_question new chain)
-  asked_by_both before question is same = record { question = question; old_asks = same ∙ is; new_asks = is }
-
-  pub other_chain : (before : ℕ) → chain < length new.chains → chain_named old (chain_at new chain).name ≡ Some before
-      → ¬ AreBothAsked (chain_question old before) (chain_question new chain) → chain_question new chain ≢ None → IsChangedChain old new chain
-  other_chain before is_chain named differ asks = record {
-    is_chain = is_chain;
-    changed = λ other other_named same.
-        let one : before ≡ other = one_number before other (sym named ∙ other_named) in
-        let alike : chain_question old before ≡ chain_question new chain = ap (chain_question old) one ∙ same in
-        elim (chain_question new chain) as (λ question. chain_question new chain ≡ question → ⊥) [
-          | None ↦ asks
-          | Some question ↦ λ is. differ (asked_by_both before question is alike)
-        ] refl;
-  }
 
   -- the steps for a chain that is answered anew: none where it is late
   late_steps : (bounds : ChainAnswer) (task before after : ℕ) → bounds ≡ Late task → OnLate bounds (after ≡ before) → after ≡ before

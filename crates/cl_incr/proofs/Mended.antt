@@ -9,33 +9,15 @@ use Rattle.std.proofs.lemmas.Bool.Decides.{eqb_tells}
 use Rattle.std.proofs.lemmas.List.{get_or_past, map-id}
 use Rattle.std.proofs.lemmas.List.Elements.{All-append, All-nil, All-cons, All-head, All-tail, All-contains, Contains-push, Contains-append_left}
 use Rattle.std.proofs.lemmas.Map.Views.{Contains-from_any, list_any-from_Contains, exact_unsigned_eq}
-use Rattle.cl_model.specs.declared.model.SystemModel.{SystemModel}
-use Rattle.cl_model.specs.declared.group.Group.{Group}
-use Rattle.cl_model.specs.declared.task.TaskDef.{TaskDef}
-use Rattle.cl_model.specs.ByNumber.{chain_at, core_of}
-use Rattle.cl_model.specs.Groups.{groups_at}
-use Rattle.cl_model.specs.Validity.{IsValid}
-use Rattle.cl_runs.specs.SystemOf.{system_of}
-use Rattle.cl_runs.specs.TaskTiming.{Timing, no_timing, timing_at}
+use Rattle.cl_model.specs.{declared.{model.SystemModel.SystemModel, group.Group.Group, task.TaskDef.TaskDef}, ByNumber.{chain_at, core_of}, Groups.groups_at, Validity.IsValid}
+use Rattle.cl_runs.specs.{SystemOf.system_of, TaskTiming.{Timing, no_timing, timing_at}}
 use Rattle.cl_runs.proofs.ModelSystem.{timing_is, count_is}
 use Rattle.cl_resp.specs.Question.{question_of}
-use Rattle.cl_analyse.specs.Headline.{question_at}
-use Rattle.cl_bound.specs.declared.answer.TaskAnswer.TheVariants.{Late}
-use Rattle.cl_bound.specs.Answers.{answers_of}
-use Rattle.cl_analyse.specs.ChainAnswers.{chain_answer_of}
-use Rattle.cl_incr.specs.declared.shift.Shift.{Shift}
-use Rattle.cl_incr.specs.declared.shift.Shift.TheVariants.{Stays}
-use Rattle.cl_incr.specs.Touched.{KeepsNumbers, HasSameTiming, ChangesOnly, Touches, AreAnswersBut}
-use Rattle.cl_incr.specs.Inner.Listed.{listed}
-use Rattle.cl_incr.specs.Inner.Passes.{ListChains}
-use Rattle.cl_incr.specs.Inner.News.{NamesNoMoved, StayFoundBut}
-use Rattle.cl_incr.specs.Inner.Reach.{HadAnswer, StandsAsBefore, KeepTimingsBut, StandBut, HadQuestion, KeepQuestionsOff, Renumbers, ReachesTasks}
-use Rattle.cl_incr.specs.Inner.Shift.{shifted, group_before}
-use Rattle.cl_incr.proofs.SameCores.{on_core, filter_same, same_question}
-use Rattle.cl_incr.proofs.SameGroups.{groups_same}
-use Rattle.cl_incr.proofs.SameChains.{stays_found}
-use Rattle.cl_incr.proofs.ShiftedAnswers.{answer_under}
-use Rattle.cl_incr.proofs.ShiftedPasses.{task_was_known}
+use Rattle.cl_analyse.specs.{Headline.question_at, ChainAnswers.chain_answer_of}
+use Rattle.cl_bound.specs.{declared.answer.TaskAnswer.TheVariants.Late, Answers.answers_of}
+use Rattle.cl_incr.specs.{declared.shift.Shift.{Shift, TheVariants.Stays}, Touched.{KeepsNumbers, HasSameTiming, ChangesOnly, Touches, AreAnswersBut}, Inner.{Listed.listed, Passes.ListChains, News.{NamesNoMoved, StayFoundBut}, Reach.{HadAnswer, StandsAsBefore, KeepTimingsBut, StandBut}}}
+use Rattle.cl_incr.specs.Inner.{Reach.{HadQuestion, KeepQuestionsOff, Renumbers, ReachesTasks}, Shift.{shifted, group_before}}
+use Rattle.cl_incr.proofs.{SameCores.{on_core, filter_same, same_question}, SameGroups.groups_same, SameChains.stays_found, ShiftedAnswers.answer_under, ShiftedPasses.task_was_known}
 
 -- what is below n + 1 and isn't n is below n
 below_last : (k n : ℕ) → k < n + 1 → k ≢ n → k < n
@@ -52,12 +34,6 @@ both b is not = let no : true ≡ false = sym is ∙ not in cc
 module _ (old new : SystemModel) (keeps : KeepsNumbers old new) where
   pub task_count : length old.tasks ≡ length new.tasks
   task_count = omega (arith, ap length keeps.tasks, length-map old.tasks (λ (t : TaskDef). t.name), length-map new.tasks (λ (t : TaskDef). t.name))
-
-  pub core_count : length old.cores ≡ length new.cores
-  core_count = ap length keeps.cores
-
-  pub chain_count : length old.chains ≡ length new.chains
-  chain_count = ap length keeps.chains
 
   pub system_count : length (system_of old).tasks ≡ length (system_of new).tasks
   system_count = omega (arith, count_is old, count_is new, task_count)

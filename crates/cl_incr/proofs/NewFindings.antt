@@ -3,29 +3,12 @@ use Rattle.std.proofs.Common.{◌≡◌, ℕ, ◌<◌, ◌⊎◌, inl, inr, List
 use Rattle.std.specs.Prelude.{Contains, unwrap_or}
 use Rattle.std.proofs.lemmas.List.{get_or-map, length-map, ext_get_or}
 use Rattle.std.proofs.lemmas.List.Elements.{All-contains}
-use Rattle.cl_model.specs.declared.model.SystemModel.{SystemModel}
-use Rattle.cl_model.specs.declared.chain.ChainDef.{ChainDef}
-use Rattle.cl_model.specs.declared.chain.RequirementDef.{RequirementDef}
-use Rattle.cl_model.specs.Named.{index_of}
-use Rattle.cl_model.specs.ByNumber.{no_chain}
-use Rattle.cl_analyse.specs.declared.findings.ChainAnswer.{ChainAnswer}
-use Rattle.cl_analyse.specs.declared.findings.ChainAnswer.TheVariants.{Late}
-use Rattle.cl_analyse.specs.declared.findings.ExactAnswer.{ExactAnswer}
-use Rattle.cl_analyse.specs.declared.findings.Findings.{Findings}
-use Rattle.cl_analyse.specs.declared.findings.Verdict.{Verdict}
-use Rattle.cl_analyse.specs.declared.findings.Verdict.TheVariants.{Unshown}
+use Rattle.cl_model.specs.{declared.{model.SystemModel.SystemModel, chain.{ChainDef.ChainDef, RequirementDef.RequirementDef}}, Named.index_of, ByNumber.no_chain}
+use Rattle.cl_analyse.specs.{declared.findings.{ChainAnswer.{ChainAnswer, TheVariants.Late}, ExactAnswer.ExactAnswer, Findings.Findings, Verdict.{Verdict, TheVariants.Unshown}}, ChainAnswers.{chain_answer_of, chain_answers_of, AreExactAnswers}, Verdicts.{required_bound, required_exact}}
+use Rattle.cl_analyse.specs.{Verdicts.{verdict_on, verdict_of, verdicts_of, verdict_at}, Findings.AreFindings}
 use Rattle.std.specs.Prelude.{None}
 use Rattle.cl_runs.specs.Requirements.{no_requirement, requirement_at, required_chain}
-use Rattle.cl_analyse.specs.ChainAnswers.{chain_answer_of, chain_answers_of, AreExactAnswers}
-use Rattle.cl_analyse.specs.Verdicts.{required_bound, required_exact, verdict_on, verdict_of, verdicts_of, verdict_at}
-use Rattle.cl_analyse.specs.Findings.{AreFindings}
-use Rattle.cl_incr.specs.declared.chains.ChainFindings.{ChainFindings}
-use Rattle.cl_incr.specs.declared.news.FoundChain.{FoundChain}
-use Rattle.cl_incr.specs.declared.news.News.{News}
-use Rattle.cl_incr.specs.Touched.{KeepsChains}
-use Rattle.cl_incr.specs.Inner.Kept.{AreFoundOf}
-use Rattle.cl_incr.specs.Inner.News.{AreNewsOf}
-use Rattle.cl_incr.specs.Inner.Put.{found_at, ArePut}
+use Rattle.cl_incr.specs.{declared.{chains.ChainFindings.ChainFindings, news.{FoundChain.FoundChain, News.News}}, Touched.KeepsChains, Inner.{Kept.AreFoundOf, News.AreNewsOf, Put.{found_at, ArePut}}}
 use Rattle.cl_incr.proofs.Puts.{standing}
 
 -- the verdict on a requirement by what is found of its chain
@@ -105,12 +88,6 @@ module _ (old new : SystemModel) (keeps : KeepsChains old new) (before : Finding
       (unwrap_or (index_of requirement.chain (map (λ (c : ChainDef). c.name) l)) 0))) keeps.chains
       ∙ ap (verdict_by requirement) (sym same)
       ∙ sym (verdict_is new chains exacts requirement)
-
-  pub verdict_count : length before.verdicts ≡ length new.requirements
-  verdict_count =
-      ap length are.verdicts
-      ∙ length-map old.requirements (verdict_of old before.chains before.exacts)
-      ∙ ap length keeps.requirements
 
   was_verdict : (requirement : ℕ) → requirement < length new.requirements
       → verdict_at before.verdicts requirement ≡ verdict_of old before.chains before.exacts (requirement_at new requirement)

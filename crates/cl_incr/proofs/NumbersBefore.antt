@@ -3,9 +3,7 @@ use Rattle.std.proofs.Common.{◌≡◌, ◌≢◌, ℕ, ◌+◌, ◌-◌, ◌<�
 use Rattle.std.proofs.lemmas.Bool.{cases_lt, lt-ltb, le-ltb}
 use Rattle.std.proofs.lemmas.Bool.Decides.{eqb_tells}
 use Rattle.cl_model.specs.TaskNumbers.{number_without}
-use Rattle.cl_incr.specs.declared.shift.Shift.{Shift}
-use Rattle.cl_incr.specs.declared.shift.Shift.TheVariants.{Stays, At}
-use Rattle.cl_incr.specs.Inner.Shift.{number_before, task_before}
+use Rattle.cl_incr.specs.{declared.shift.Shift.{Shift, TheVariants.{Stays, At}}, Inner.Shift.{number_before, task_before}}
 
 -- one below it had the same number
 pub before_below : (gone number : ℕ) → number < gone → number_before gone number ≡ number

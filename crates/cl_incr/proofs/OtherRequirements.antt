@@ -1,24 +1,13 @@
 -- A change of requirements leaves the answers for tasks and what is found of chains: only the requirements are judged anew.
 use Rattle.std.proofs.Common.{◌≡◌, ℕ, ◌⊎◌, inl, inr, Bool, true, false, List, [], ◌∷◌, ◌++◌, refl, sym, ap, ◌∙◌, subst}
 use Rattle.std.specs.Prelude.{remove, slice_set}
-use Rattle.cl_model.specs.declared.model.SystemModel.{SystemModel}
-use Rattle.cl_model.specs.declared.chain.RequirementDef.{RequirementDef}
-use Rattle.cl_model.specs.ByNumber.{chain_at}
-use Rattle.cl_model.specs.Groups.{groups_of}
+use Rattle.cl_model.specs.{declared.{model.SystemModel.SystemModel, chain.RequirementDef.RequirementDef}, ByNumber.chain_at, Groups.groups_of}
 use Rattle.cl_runs.specs.SystemOf.{system_of}
 use Rattle.cl_bound.specs.Answers.{answers_of}
 use Rattle.cl_exact.specs.TimedPeriodic.{is_timed_periodic_chain}
-use Rattle.cl_analyse.specs.declared.findings.ChainAnswer.{ChainAnswer}
-use Rattle.cl_analyse.specs.declared.findings.ChainAnswer.TheVariants.{Bounds, Late}
-use Rattle.cl_analyse.specs.declared.findings.ExactAnswer.{ExactAnswer}
-use Rattle.cl_analyse.specs.declared.findings.ExactAnswer.TheVariants.{Exact, Past, NotTimed, ChainLate}
-use Rattle.cl_analyse.specs.declared.findings.Findings.{Findings}
-use Rattle.cl_analyse.specs.ChainAnswers.{chain_answer_of, chain_answers_of, exact_answer_at, IsTimelyAnswer, IsExactAnswer, AreExactAnswers}
-use Rattle.cl_analyse.specs.Verdicts.{verdicts_of}
-use Rattle.cl_analyse.specs.Findings.{AreFindings}
-use Rattle.cl_edit.specs.declared.change.Change.{Change}
-use Rattle.cl_edit.specs.declared.change.Change.TheVariants.{Requirement, AddRequirement, DropRequirement}
-use Rattle.cl_edit.specs.Changing.{with_change}
+use Rattle.cl_analyse.specs.{declared.findings.{ChainAnswer.{ChainAnswer, TheVariants.{Bounds, Late}}, ExactAnswer.{ExactAnswer, TheVariants.{Exact, Past, NotTimed, ChainLate}}, Findings.Findings}, ChainAnswers.{chain_answer_of, chain_answers_of, exact_answer_at, IsTimelyAnswer}}
+use Rattle.cl_analyse.specs.{ChainAnswers.{IsExactAnswer, AreExactAnswers}, Verdicts.verdicts_of, Findings.AreFindings}
+use Rattle.cl_edit.specs.{declared.change.Change.{Change, TheVariants.{Requirement, AddRequirement, DropRequirement}}, Changing.with_change}
 use Rattle.cl_incr.specs.Inner.Reach.{ChangesRequirements}
 
 -- ---- what the changes reach

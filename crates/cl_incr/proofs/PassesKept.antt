@@ -1,14 +1,9 @@
 -- Where chains and requirements stay, the same requirements name each chain.
 use Rattle.std.proofs.Common.{◌≡◌, ℕ, List, length, get_or, map, ap, ◌∙◌, subst, arith}
 use Rattle.std.specs.Prelude.{Contains, unwrap_or}
-use Rattle.cl_model.specs.declared.model.SystemModel.{SystemModel}
-use Rattle.cl_model.specs.declared.chain.ChainDef.{ChainDef}
-use Rattle.cl_model.specs.declared.chain.RequirementDef.{RequirementDef}
-use Rattle.cl_model.specs.Named.{index_of}
+use Rattle.cl_model.specs.{declared.{model.SystemModel.SystemModel, chain.{ChainDef.ChainDef, RequirementDef.RequirementDef}}, Named.index_of}
 use Rattle.cl_runs.specs.Requirements.{no_requirement, requirement_at, required_chain}
-use Rattle.cl_incr.specs.Touched.{KeepsChains}
-use Rattle.cl_incr.specs.Inner.Listed.{listed, AreListedBelow}
-use Rattle.cl_incr.specs.Inner.Passes.{ListRequirements}
+use Rattle.cl_incr.specs.{Touched.KeepsChains, Inner.{Listed.{listed, AreListedBelow}, Passes.ListRequirements}}
 
 module _ (old new : SystemModel) (keeps : KeepsChains old new) where
   required_same : (requirement : ℕ) → required_chain old (requirement_at old requirement) ≡ required_chain new (requirement_at new requirement)

@@ -3,13 +3,8 @@ use Rattle.std.proofs.Common.{◌≡◌, ◌≢◌, ℕ, ◌+◌, ◌<◌, ◌�
 use Rattle.std.specs.Prelude.{Contains}
 use Rattle.std.proofs.lemmas.Bool.Decides.{eqb_tells}
 use Rattle.std.proofs.lemmas.List.{get_or-set_same, get_or-set_other, get_or-map, length-map}
-use Rattle.cl_analyse.specs.declared.findings.ChainAnswer.{ChainAnswer}
-use Rattle.cl_analyse.specs.declared.findings.ChainAnswer.TheVariants.{Late}
-use Rattle.cl_analyse.specs.declared.findings.ExactAnswer.{ExactAnswer}
-use Rattle.cl_analyse.specs.declared.findings.ExactAnswer.TheVariants.{ChainLate}
-use Rattle.cl_incr.specs.declared.chains.ChainFindings.{ChainFindings}
-use Rattle.cl_incr.specs.declared.news.FoundChain.{FoundChain}
-use Rattle.cl_incr.specs.Inner.Put.{found_at}
+use Rattle.cl_analyse.specs.declared.findings.{ChainAnswer.{ChainAnswer, TheVariants.Late}, ExactAnswer.{ExactAnswer, TheVariants.ChainLate}}
+use Rattle.cl_incr.specs.{declared.{chains.ChainFindings.ChainFindings, news.FoundChain.FoundChain}, Inner.Put.found_at}
 
 -- what stands of a chain, with its number
 abbrev pub standing : List ChainAnswer → List ExactAnswer → (chain : ℕ) → FoundChain

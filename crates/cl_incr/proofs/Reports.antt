@@ -1,10 +1,7 @@
 -- A report changes nothing.
 use Rattle.std.proofs.Common.{◌≡◌, sym, subst, Ok}
-use Rattle.cl_model.specs.declared.model.SystemModel.{SystemModel}
-use Rattle.cl_model.specs.Validity.{IsValid}
-use Rattle.cl_edit.specs.declared.edit.Edit.{Edit}
-use Rattle.cl_edit.specs.declared.edit.Edit.TheVariants.{Report}
-use Rattle.cl_edit.specs.Edited.{edited}
+use Rattle.cl_model.specs.{declared.model.SystemModel.SystemModel, Validity.IsValid}
+use Rattle.cl_edit.specs.{declared.edit.Edit.{Edit, TheVariants.Report}, Edited.edited}
 use Rattle.cl_edit.proofs.EditedValid.{report_keeps}
 
 pub same_model : (model : SystemModel) (edit : Edit) → IsValid model → edit ≡ Report → edited model edit ≡ Ok model

@@ -5,37 +5,15 @@ use Rattle.std.specs.Prelude.{map, find, All, Option}
 use Rattle.std.specs.Option.{option_map}
 use Rattle.std.proofs.lemmas.List.{get_or-map, length-map}
 use Rattle.std.proofs.lemmas.List.Elements.{All-head, All-tail}
-use Rattle.cl_model.specs.declared.model.SystemModel.{SystemModel}
-use Rattle.cl_model.specs.declared.group.Group.{Group}
-use Rattle.cl_model.specs.ByNumber.{chain_at}
-use Rattle.cl_model.specs.Groups.{no_group, group_at, steps_of, groups_at}
-use Rattle.cl_model.specs.Kinds.{is_timed}
-use Rattle.cl_model.specs.Validity.{IsValid}
-use Rattle.cl_runs.specs.SystemOf.{system_of}
-use Rattle.cl_runs.specs.TaskTiming.{Timing, timing_at}
+use Rattle.cl_model.specs.{declared.{model.SystemModel.SystemModel, group.Group.Group}, ByNumber.chain_at, Groups.{no_group, group_at, steps_of, groups_at}, Kinds.is_timed, Validity.IsValid}
+use Rattle.cl_runs.specs.{SystemOf.system_of, TaskTiming.{Timing, timing_at}}
 use Rattle.cl_comm.specs.Windows.{spot_at}
-use Rattle.cl_bound.specs.declared.answer.TaskAnswer.{TaskAnswer}
-use Rattle.cl_bound.specs.Answers.{answers_of, answer_at, is_late, response_in}
-use Rattle.cl_bound.specs.Bounds.{Lengths, settled_timing, bounds_of}
-use Rattle.cl_bound.specs.Hops.{group_timing, saves}
-use Rattle.cl_analyse.specs.declared.findings.ChainAnswer.TheVariants.{Late}
-use Rattle.cl_analyse.specs.declared.findings.ExactAnswer.{ExactAnswer}
-use Rattle.cl_analyse.specs.ChainAnswers.{first_late, chain_answer, chain_answer_of, IsExactAnswer}
+use Rattle.cl_bound.specs.{declared.answer.TaskAnswer.TaskAnswer, Answers.{answers_of, answer_at, is_late, response_in}, Bounds.{Lengths, settled_timing, bounds_of}, Hops.{group_timing, saves}}
+use Rattle.cl_analyse.specs.{declared.findings.{ChainAnswer.TheVariants.Late, ExactAnswer.ExactAnswer}, ChainAnswers.{first_late, chain_answer, chain_answer_of, IsExactAnswer}}
 use Rattle.cl_analyse.proofs.FirstLate.{first_late_group, first_late_of_groups}
-use Rattle.cl_incr.specs.declared.question.GroupQuestion.{GroupQuestion}
-use Rattle.cl_incr.specs.declared.question.HopLine.TheVariants.{SameTask, Saving, Plain}
-use Rattle.cl_incr.specs.declared.shift.Shift.{Shift}
-use Rattle.cl_incr.specs.declared.shift.Shift.TheVariants.{Stays, At}
-use Rattle.cl_incr.specs.Questions.{ChainQuestion, group_question, hop_line, hop_lines, question_of_groups, unless_late, chain_question}
-use Rattle.cl_incr.specs.Inner.News.{NamesNoMoved}
-use Rattle.cl_incr.specs.Inner.Kept.{AreFoundOf}
-use Rattle.cl_incr.specs.Inner.Reach.{StandsAsBefore}
-use Rattle.cl_incr.specs.Inner.Shift.{task_before, group_before}
-use Rattle.cl_incr.specs.declared.chains.ChainFindings.{ChainFindings}
-use Rattle.cl_incr.proofs.GroupQuestions.{asked, AskTheSame, same_bounds}
-use Rattle.cl_incr.proofs.ByQuestions.{exact_answers_same, late_where_not_asked}
-use Rattle.cl_incr.proofs.NumbersBefore.{task_apart}
-use Rattle.cl_incr.proofs.SameQuestions.{same_maps, same_hops}
+use Rattle.cl_incr.specs.{declared.{question.{GroupQuestion.GroupQuestion, HopLine.TheVariants.{SameTask, Saving, Plain}}, shift.Shift.{Shift, TheVariants.{Stays, At}}, chains.ChainFindings.ChainFindings}, Questions.{ChainQuestion, group_question, hop_line, hop_lines, question_of_groups}}
+use Rattle.cl_incr.specs.{Questions.{unless_late, chain_question}, Inner.{News.NamesNoMoved, Kept.AreFoundOf, Reach.StandsAsBefore, Shift.{task_before, group_before}}}
+use Rattle.cl_incr.proofs.{GroupQuestions.{asked, AskTheSame, same_bounds}, ByQuestions.{exact_answers_same, late_where_not_asked}, NumbersBefore.task_apart, SameQuestions.{same_maps, same_hops}}
 
 -- ---- groups and hops
 

@@ -5,14 +5,8 @@ use Rattle.std.specs.Prelude.{map, unwrap_or}
 use Rattle.std.proofs.Math.ListN.{length-map}
 use Rattle.std.proofs.lemmas.List.{map-append}
 use Rattle.std.proofs.lemmas.List.Concat.{flat_map-cons}
-use Rattle.cl_model.specs.declared.model.SystemModel.{SystemModel}
-use Rattle.cl_model.specs.declared.chain.ChainDef.{ChainDef}
-use Rattle.cl_model.specs.declared.group.Step.{Step}
-use Rattle.cl_model.specs.declared.task.RunnableDef.{RunnableDef}
-use Rattle.cl_model.specs.declared.task.TaskDef.{TaskDef}
-use Rattle.cl_model.specs.Named.{index_of, runnable_names, all_runnables}
-use Rattle.cl_model.specs.ByNumber.{chain_at}
-use Rattle.cl_model.specs.Groups.{step_from, step_named, steps_of, groups, groups_of, groups_at}
+use Rattle.cl_model.specs.{declared.{model.SystemModel.SystemModel, chain.ChainDef.ChainDef, group.Step.Step, task.{RunnableDef.RunnableDef, TaskDef.TaskDef}}, Named.{index_of, runnable_names, all_runnables}, ByNumber.chain_at, Groups.{step_from, step_named, steps_of, groups, groups_of}}
+use Rattle.cl_model.specs.Groups.{groups_at}
 use Rattle.cl_incr.specs.Touched.{KeepsNumbers}
 
 -- the names of the runnables of a task

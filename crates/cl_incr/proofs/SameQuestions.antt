@@ -4,25 +4,13 @@ use Rattle.std.specs.Prelude.{map, Option, Some, None}
 use Rattle.std.proofs.Math.ListN.{length-map}
 use Rattle.std.proofs.lemmas.Bool.{ltb-true, ltb-false, lt-ltb, le-ltb, eq-eqb, ne_eqb, and_left, and_right}
 use Rattle.std.proofs.lemmas.List.{get_or-map, ext_get_or}
-use Rattle.cl_model.specs.declared.model.SystemModel.{SystemModel}
-use Rattle.cl_model.specs.declared.group.Group.{Group}
-use Rattle.cl_model.specs.ByNumber.{task_at, core_of, chain_at}
-use Rattle.cl_model.specs.Groups.{group_at, groups_at, steps_of}
-use Rattle.cl_model.specs.Kinds.{is_timed}
-use Rattle.cl_runs.specs.SystemOf.{timing_of, system_of}
-use Rattle.cl_runs.specs.TaskTiming.{Timing, System, timing_at}
+use Rattle.cl_model.specs.{declared.{model.SystemModel.SystemModel, group.Group.Group}, ByNumber.{task_at, core_of, chain_at}, Groups.{group_at, groups_at, steps_of}, Kinds.is_timed}
+use Rattle.cl_runs.specs.{SystemOf.{timing_of, system_of}, TaskTiming.{Timing, System, timing_at}}
 use Rattle.cl_runs.proofs.ModelSystem.{timing_is}
 use Rattle.cl_comm.specs.Windows.{spot_at}
-use Rattle.cl_bound.specs.declared.answer.TaskAnswer.{TaskAnswer}
-use Rattle.cl_bound.specs.Answers.{answers_of, answer_at, response_in}
-use Rattle.cl_bound.specs.Bounds.{settled_timing}
-use Rattle.cl_bound.specs.Hops.{group_timing, saves}
-use Rattle.cl_incr.specs.declared.question.GroupQuestion.{GroupQuestion}
-use Rattle.cl_incr.specs.declared.question.HopLine.{HopLine}
-use Rattle.cl_incr.specs.declared.question.HopLine.TheVariants.{Plain}
+use Rattle.cl_bound.specs.{declared.answer.TaskAnswer.TaskAnswer, Answers.{answers_of, answer_at, response_in}, Bounds.settled_timing, Hops.{group_timing, saves}}
+use Rattle.cl_incr.specs.{declared.question.{GroupQuestion.GroupQuestion, HopLine.{HopLine, TheVariants.Plain}}, Questions.{group_question, hop_line, hop_lines_from, hop_lines, ChainQuestion, question_of_groups, unless_late, chain_question}, Inner.Kept.AreBothAsked}
 use Rattle.cl_analyse.specs.ChainAnswers.{first_late}
-use Rattle.cl_incr.specs.Questions.{group_question, hop_line, hop_lines_from, hop_lines, ChainQuestion, question_of_groups, unless_late, chain_question}
-use Rattle.cl_incr.specs.Inner.Kept.{AreBothAsked}
 
 -- ---- a group and a hop of a model
 

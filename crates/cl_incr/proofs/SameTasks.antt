@@ -5,15 +5,10 @@ use Rattle.std.specs.Bool.{Decides}
 use Rattle.std.specs.Cmp.Lexicographic.{pointwise}
 use Rattle.std.proofs.lemmas.Bool.{and_parts, and_from}
 use Rattle.std.proofs.lemmas.Bool.Decides.{Decides-eqb, nat_tests}
-use Rattle.cl_model.specs.declared.stimulus.StimulusKind.{StimulusKind}
-use Rattle.cl_model.specs.declared.stimulus.StimulusKind.TheVariants.{Periodic, Sporadic, Burst}
-use Rattle.cl_runs.specs.TaskTiming.{Timing, System}
-use Rattle.cl_runs.specs.Priorities.{is_above}
-use Rattle.cl_stim.specs.AnyStimulus.{as_stimulus}
-use Rattle.cl_stim.specs.contracts.any_stimulus.AnyStimulusPartialEq.TheImpl.{ghosts}
-use Rattle.cl_resp.specs.declared.question.Above.{Above}
-use Rattle.cl_resp.specs.declared.question.Question.{Question}
-use Rattle.cl_resp.specs.Question.{taken_by, question_of}
+use Rattle.cl_model.specs.declared.stimulus.StimulusKind.{StimulusKind, TheVariants.{Periodic, Sporadic, Burst}}
+use Rattle.cl_runs.specs.{TaskTiming.{Timing, System}, Priorities.is_above}
+use Rattle.cl_stim.specs.{AnyStimulus.as_stimulus, contracts.any_stimulus.AnyStimulusPartialEq.TheImpl.ghosts}
+use Rattle.cl_resp.specs.{declared.question.{Above.Above, Question.Question}, Question.{taken_by, question_of}}
 
 -- ---- lists
 

@@ -2,20 +2,11 @@
 use Rattle.std.proofs.Common.{◌≡◌, ℕ, ◌<◌, inl, inr, List, length, refl, sym, ap, ◌∙◌, arith}
 use Rattle.std.specs.Prelude.{All, Contains}
 use Rattle.std.proofs.lemmas.List.Elements.{All-contains}
-use Rattle.cl_model.specs.declared.model.SystemModel.{SystemModel}
-use Rattle.cl_model.specs.ByNumber.{core_of, tasks_of_core}
+use Rattle.cl_model.specs.{declared.model.SystemModel.SystemModel, ByNumber.{core_of, tasks_of_core}}
 use Rattle.cl_runs.specs.SystemOf.{system_of}
-use Rattle.cl_bound.specs.declared.answer.TaskAnswer.{TaskAnswer}
-use Rattle.cl_bound.specs.declared.answer.TaskAnswer.TheVariants.{Late}
-use Rattle.cl_bound.specs.Answers.{answer_at, answers_of}
-use Rattle.cl_incr.specs.declared.shift.Shift.{Shift}
-use Rattle.cl_incr.specs.Touched.{AreAnswersBut}
-use Rattle.cl_incr.specs.Inner.Reach.{HadQuestion, KeepQuestionsOff, Renumbers}
-use Rattle.cl_incr.specs.Inner.Shift.{task_before, shifted, shifted_count}
-use Rattle.cl_incr.proofs.ByQuestions.{same_answers}
-use Rattle.cl_incr.proofs.KeptAnswers.{answer_is, answer_count}
-use Rattle.cl_incr.proofs.OwnCores.{on_its_core}
-use Rattle.cl_incr.proofs.ShiftedLists.{length-shifted, shifted_at}
+use Rattle.cl_bound.specs.{declared.answer.TaskAnswer.{TaskAnswer, TheVariants.Late}, Answers.{answer_at, answers_of}}
+use Rattle.cl_incr.specs.{declared.shift.Shift.Shift, Touched.AreAnswersBut, Inner.{Reach.{HadQuestion, KeepQuestionsOff, Renumbers}, Shift.{task_before, shifted, shifted_count}}}
+use Rattle.cl_incr.proofs.{ByQuestions.same_answers, KeptAnswers.{answer_is, answer_count}, OwnCores.on_its_core, ShiftedLists.{length-shifted, shifted_at}}
 
 -- as many answers as tasks
 pub shifted_answer_count : (shift : Shift) (old new : SystemModel) → Renumbers shift old new → (answers : List TaskAnswer)

@@ -5,9 +5,7 @@ use Rattle.std.proofs.lemmas.Bool.{cases_lt, lt-ltb, le-ltb}
 use Rattle.std.proofs.lemmas.List.{get_or_append_left, length_push}
 use Rattle.std.proofs.lemmas.List.Edits.{length-remove, get_or-remove_below, get_or-remove_above}
 use Rattle.std.proofs.lemmas.List.Elements.{All-push}
-use Rattle.cl_incr.specs.declared.shift.Shift.{Shift}
-use Rattle.cl_incr.specs.declared.shift.Shift.TheVariants.{Stays, At}
-use Rattle.cl_incr.specs.Inner.Shift.{number_before, moved, moved_count, task_before, shifted, shifted_count}
+use Rattle.cl_incr.specs.{declared.shift.Shift.{Shift, TheVariants.{Stays, At}}, Inner.Shift.{number_before, moved, moved_count, task_before, shifted, shifted_count}}
 use Rattle.cl_incr.proofs.NumbersBefore.{before_below, before_above}
 
 -- ---- one is taken out, or added behind the others

@@ -3,19 +3,10 @@ use Rattle.std.proofs.Common.{◌≡◌, ℕ, ◌<◌, List, [], length, get_or,
 use Rattle.std.specs.Prelude.{All, Contains}
 use Rattle.std.proofs.lemmas.List.{get_or-map, length-map}
 use Rattle.std.proofs.lemmas.List.Elements.{All-nil}
-use Rattle.cl_model.specs.declared.model.SystemModel.{SystemModel}
-use Rattle.cl_model.specs.declared.group.Group.{Group}
-use Rattle.cl_model.specs.Groups.{groups_at}
-use Rattle.cl_model.specs.Validity.{IsValid}
+use Rattle.cl_model.specs.{declared.{model.SystemModel.SystemModel, group.Group.Group}, Groups.groups_at, Validity.IsValid}
 use Rattle.cl_model.proofs.GroupFacts.{groups_at_are}
-use Rattle.cl_incr.specs.declared.passing.Passing.{Passing}
-use Rattle.cl_incr.specs.declared.shift.Shift.{Shift}
-use Rattle.cl_incr.specs.Inner.Listed.{listed, AreListedBelow}
-use Rattle.cl_incr.specs.Inner.Passes.{ListChains, ListRequirements, ArePassesOf}
-use Rattle.cl_incr.specs.Inner.Reach.{Renumbers}
-use Rattle.cl_incr.specs.Inner.Shift.{task_before, shifted, shifted_count, group_before}
-use Rattle.cl_incr.proofs.ShiftedLists.{length-shifted, shifted_at, all_shifted}
-use Rattle.cl_incr.proofs.PassesKept.{requirements_kept}
+use Rattle.cl_incr.specs.{declared.{passing.Passing.Passing, shift.Shift.Shift}, Inner.{Listed.{listed, AreListedBelow}, Passes.{ListChains, ListRequirements, ArePassesOf}, Reach.Renumbers, Shift.{task_before, shifted, shifted_count, group_before}}}
+use Rattle.cl_incr.proofs.{ShiftedLists.{length-shifted, shifted_at, all_shifted}, PassesKept.requirements_kept}
 
 module _ (shift : Shift) (old new : SystemModel) (valid : IsValid old) (numbers : Renumbers shift old new) where
   chain_known : (chain : ℕ) → chain < length new.chains → chain < length old.chains

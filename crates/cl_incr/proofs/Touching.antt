@@ -5,19 +5,10 @@ use Rattle.std.proofs.lemmas.Bool.Decides.{eqb_tells}
 use Rattle.std.proofs.lemmas.List.Elements.{All-nil, All-cons, All-head, All-tail, All-append, Contains-append_left, Contains-append_right}
 use Rattle.std.proofs.Math.Seq.{map-set_same}
 use Rattle.std.proofs.lemmas.List.{get_or-set_other, length-set, length-map}
-use Rattle.cl_model.specs.declared.changes.TaskPriority.{TaskPriority}
-use Rattle.cl_model.specs.declared.model.SystemModel.{SystemModel}
-use Rattle.cl_model.specs.declared.stimulus.StimulusKind.{StimulusKind}
-use Rattle.cl_model.specs.declared.task.RunnableDef.{RunnableDef}
-use Rattle.cl_model.specs.declared.task.TaskDef.{TaskDef}
-use Rattle.cl_model.specs.declared.group.Step.{Step}
-use Rattle.cl_model.specs.Named.{runnable_names}
-use Rattle.cl_model.specs.Timing.{deadline_under}
-use Rattle.cl_model.specs.ByNumber.{no_task, no_runnable, task_at, runnable_at, core_number, stimulus_of}
-use Rattle.cl_runs.specs.SystemOf.{range_of, timing_of}
-use Rattle.cl_runs.specs.TaskTiming.{Timing}
+use Rattle.cl_model.specs.{declared.{changes.TaskPriority.TaskPriority, model.SystemModel.SystemModel, stimulus.StimulusKind.StimulusKind, task.{RunnableDef.RunnableDef, TaskDef.TaskDef}, group.Step.Step}, Named.runnable_names, Timing.deadline_under, ByNumber.{no_task, no_runnable}}
+use Rattle.cl_model.specs.{ByNumber.{task_at, runnable_at, core_number, stimulus_of}, Changes.{with_runnable, with_task, with_priorities, with_kind}}
+use Rattle.cl_runs.specs.{SystemOf.{range_of, timing_of}, TaskTiming.Timing}
 use Rattle.cl_runs.proofs.ModelSystem.{timing_is}
-use Rattle.cl_model.specs.Changes.{with_runnable, with_task, with_priorities, with_kind}
 use Rattle.cl_incr.specs.Touched.{KeepsNumbers, HasSameTiming, ChangesOnly, Touches}
 
 -- ---- one change after another
@@ -54,12 +45,6 @@ module _ (model : SystemModel) (i : ℕ) (task : TaskDef) where
       ∙ sym (timing_is (with_task model i task) k within)
 
 -- ---- a runnable
-
-pub runnable_keeps : (model : SystemModel) (step : Step) (runnable : RunnableDef) → runnable.name ≡ (runnable_at model step).name
-    → KeepsNumbers model (with_runnable model step runnable)
-runnable_keeps model step runnable name =
-    task_keeps model step.task _ refl
-    (map-set_same (λ (r : RunnableDef). r.name) (task_at model step.task).runnables step.place runnable no_runnable name)
 
 -- ---- a stimulus
 

@@ -1,8 +1,7 @@
 -- Which questions change from one model to another. A task or a chain keeps its name where its number changes.
 use Rattle.std.specs.Prelude.{◌≡◌, ◌≢◌, ℕ, ◌+◌, ◌*◌, ◌<◌, ◌≤◌, List, length, All, Some}
 use Rattle.std.specs.List.Sorted.{IsStrictlyIncreasing}
-use Rattle.cl_model.specs.declared.model.SystemModel.{SystemModel}
-use Rattle.cl_model.specs.ByNumber.{task_at, chain_at, task_named, chain_named}
+use Rattle.cl_model.specs.{declared.model.SystemModel.SystemModel, ByNumber.{task_at, chain_at, task_named, chain_named}}
 use Rattle.cl_analyse.specs.Headline.{question_at}
 use Rattle.cl_incr.specs.Questions.{chain_question}
 

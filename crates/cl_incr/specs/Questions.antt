@@ -1,21 +1,12 @@
 -- The question of a chain: all that its bounds and its exact lengths depend on. That of a task is the question that its
 -- response answers.
 use Rattle.std.specs.Prelude.{ℕ, ◌==◌, if◌then◌else◌, List, [], ◌∷◌, map, Option, Some, None}
-use Rattle.cl_model.specs.declared.group.Group.{Group}
-use Rattle.cl_model.specs.declared.model.SystemModel.{SystemModel}
-use Rattle.cl_model.specs.ByNumber.{chain_at}
-use Rattle.cl_model.specs.Groups.{steps_of, groups_at}
-use Rattle.cl_runs.specs.SystemOf.{system_of}
-use Rattle.cl_runs.specs.TaskTiming.{System, timing_at}
+use Rattle.cl_model.specs.{declared.{group.Group.Group, model.SystemModel.SystemModel}, ByNumber.chain_at, Groups.{steps_of, groups_at}}
+use Rattle.cl_runs.specs.{SystemOf.system_of, TaskTiming.{System, timing_at}}
 use Rattle.cl_comm.specs.Windows.{spot_at}
-use Rattle.cl_bound.specs.declared.answer.TaskAnswer.{TaskAnswer}
-use Rattle.cl_bound.specs.Answers.{answers_of, answer_at, response_in}
-use Rattle.cl_bound.specs.Bounds.{settled_timing}
-use Rattle.cl_bound.specs.Hops.{saves}
+use Rattle.cl_bound.specs.{declared.answer.TaskAnswer.TaskAnswer, Answers.{answers_of, answer_at, response_in}, Bounds.settled_timing, Hops.saves}
 use Rattle.cl_analyse.specs.ChainAnswers.{first_late}
-use Rattle.cl_incr.specs.declared.question.GroupQuestion.{GroupQuestion}
-use Rattle.cl_incr.specs.declared.question.HopLine.{HopLine}
-use Rattle.cl_incr.specs.declared.question.HopLine.TheVariants.{SameTask, Saving, Plain}
+use Rattle.cl_incr.specs.declared.question.{GroupQuestion.GroupQuestion, HopLine.{HopLine, TheVariants.{SameTask, Saving, Plain}}}
 
 -- ---- groups
 

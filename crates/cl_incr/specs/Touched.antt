@@ -1,12 +1,8 @@
 -- What a change from one model to another touches, where each task and each chain keeps its number.
 use Rattle.std.specs.Prelude.{◌≡◌, ℕ, ◌<◌, ◌⊎◌, List, length, map, All, Contains}
-use Rattle.cl_model.specs.declared.model.SystemModel.{SystemModel}
-use Rattle.cl_model.specs.declared.task.TaskDef.{TaskDef}
-use Rattle.cl_model.specs.Named.{task_names, runnable_names}
-use Rattle.cl_runs.specs.SystemOf.{system_of}
-use Rattle.cl_runs.specs.TaskTiming.{timing_at}
-use Rattle.cl_bound.specs.declared.answer.TaskAnswer.{TaskAnswer}
-use Rattle.cl_bound.specs.Answers.{answers_of, answer_at}
+use Rattle.cl_model.specs.{declared.{model.SystemModel.SystemModel, task.TaskDef.TaskDef}, Named.{task_names, runnable_names}}
+use Rattle.cl_runs.specs.{SystemOf.system_of, TaskTiming.timing_at}
+use Rattle.cl_bound.specs.{declared.answer.TaskAnswer.TaskAnswer, Answers.{answers_of, answer_at}}
 
 -- the names of the runnables of each task
 abbrev pub runnable_names_of : SystemModel → List (List (List ℕ))

@@ -2,10 +2,8 @@
 //! ticks.
 ghost use Rattle.std.specs.Prelude.{◌≡◌, ◌<◌, ◌++◌, [], ◌∷◌, length, OnOk, OnErr};
 ghost use Rattle.cl_model.specs.declared.model.SystemModel.{SystemModel};
-ghost use Rattle.cl_analyse.specs.Verdicts.{verdicts_of};
-ghost use Rattle.cl_analyse.specs.Findings.{AreFindings};
-ghost use Rattle.cl_incr.specs.Inner.Kept.{AreFoundOf};
-ghost use Rattle.cl_incr.specs.Inner.Reach.{AddsChain, DropsChain, ChangesRequirements};
+ghost use Rattle.cl_analyse.specs.{Verdicts.verdicts_of, Findings.AreFindings};
+ghost use Rattle.cl_incr.specs.Inner.{Kept.AreFoundOf, Reach.{AddsChain, DropsChain, ChangesRequirements}};
 
 use crate::chains::ChainFindings;
 use cl_analyse::{ChainAnswer, ExactAnswer, Findings, Verdict, judge, judge_all};

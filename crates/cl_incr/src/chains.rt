@@ -4,9 +4,7 @@ ghost use Rattle.std.specs.Prelude.{◌≡◌, ◌<◌, length};
 ghost use Rattle.cl_runs.specs.SystemOf.{system_of};
 ghost use Rattle.cl_bound.specs.Answers.{answers_of};
 ghost use Rattle.cl_analyse.specs.Findings.{AreFindings};
-ghost use Rattle.cl_incr.specs.Changed.{IsChangedChain};
-ghost use Rattle.cl_incr.specs.Inner.Kept.{AreFoundOf, IsKeptChain};
-ghost use Rattle.cl_incr.specs.Inner.Asked.{AsksOne};
+ghost use Rattle.cl_incr.specs.{Changed.IsChangedChain, Inner.{Kept.{AreFoundOf, IsKeptChain}, Asked.AsksOne}};
 
 use crate::comparing::ask_the_same;
 use cl_analyse::{ChainAnswer, ExactAnswer, Findings, answer_chain, answer_exact};

@@ -1,18 +1,10 @@
 //! Equal questions have equal answers, so an answer may be kept as long as its question stays the
 //! same, whatever else of the model changes.
 ghost use Rattle.std.specs.Prelude.{◌≡◌, ℕ, ◌<◌, length, Some, None};
-ghost use Rattle.cl_model.specs.declared.model.SystemModel.{SystemModel};
-ghost use Rattle.cl_model.specs.ByNumber.{chain_at};
-ghost use Rattle.cl_model.specs.Groups.{groups_at};
-ghost use Rattle.cl_model.specs.Validity.{IsValid};
-ghost use Rattle.cl_runs.specs.SystemOf.{system_of};
-ghost use Rattle.cl_runs.specs.TaskTiming.{timing_at};
-ghost use Rattle.cl_bound.specs.Answers.{answer_to};
-ghost use Rattle.cl_bound.specs.Bounds.{bounds_of};
-ghost use Rattle.cl_analyse.specs.declared.findings.ChainAnswer.TheVariants.{Bounds, Late};
-ghost use Rattle.cl_analyse.specs.declared.findings.ExactAnswer.{ExactAnswer};
-ghost use Rattle.cl_analyse.specs.ChainAnswers.{chain_answer_of, IsExactAnswer};
-ghost use Rattle.cl_analyse.specs.Headline.{question_at};
+ghost use Rattle.cl_model.specs.{declared.model.SystemModel.SystemModel, ByNumber.chain_at, Groups.groups_at, Validity.IsValid};
+ghost use Rattle.cl_runs.specs.{SystemOf.system_of, TaskTiming.timing_at};
+ghost use Rattle.cl_bound.specs.{Answers.answer_to, Bounds.bounds_of};
+ghost use Rattle.cl_analyse.specs.{declared.findings.{ChainAnswer.TheVariants.{Bounds, Late}, ExactAnswer.ExactAnswer}, ChainAnswers.{chain_answer_of, IsExactAnswer}, Headline.question_at};
 ghost use Rattle.cl_incr.specs.Questions.{ChainQuestion, chain_question};
 
 /// Two tasks with the same question, of one model or of two, have the same answer: both are late,

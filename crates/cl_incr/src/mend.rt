@@ -4,16 +4,9 @@
 ghost use Rattle.std.specs.Prelude.{◌≡◌, ℕ, ◌<◌, ◌⊎◌, ◌↔◌, length, IsTrue, IfOk, OnOk, All, Contains};
 ghost use Rattle.std.specs.List.Sorted.{IsStrictlyIncreasing};
 ghost use Rattle.cl_runs.specs.SystemOf.{system_of};
-ghost use Rattle.cl_bound.specs.declared.answer.TaskAnswer.TheVariants.{Late};
-ghost use Rattle.cl_bound.specs.Answers.{answer_at, answers_of};
-ghost use Rattle.cl_analyse.specs.ChainAnswers.{chain_answer_at};
-ghost use Rattle.cl_analyse.specs.Findings.{AreFindings};
-ghost use Rattle.cl_incr.specs.Changed.{AsksForChanges};
-ghost use Rattle.cl_incr.specs.Touched.{AreAnswersBut};
-ghost use Rattle.cl_incr.specs.Inner.Asked.{AsksTasks, AsksChains};
-ghost use Rattle.cl_incr.specs.Inner.Passes.{ArePassesOf, ListChains};
-ghost use Rattle.cl_incr.specs.Inner.News.{HasBounds, NamesNoMoved, chains_found, AreAllFound, StayFoundBut, AreNewsOf};
-ghost use Rattle.cl_incr.specs.Inner.Reach.{StandBut, Renumbers, Reaches};
+ghost use Rattle.cl_bound.specs.{declared.answer.TaskAnswer.TheVariants.Late, Answers.{answer_at, answers_of}};
+ghost use Rattle.cl_analyse.specs.{ChainAnswers.chain_answer_at, Findings.AreFindings};
+ghost use Rattle.cl_incr.specs.{Changed.AsksForChanges, Touched.AreAnswersBut, Inner.{Asked.{AsksTasks, AsksChains}, Passes.{ArePassesOf, ListChains}, News.{HasBounds, NamesNoMoved, chains_found, AreAllFound, StayFoundBut, AreNewsOf}, Reach.{StandBut, Renumbers, Reaches}}};
 ghost use Rattle.cl_incr.specs.Inner.Shift.{task_before, shifted};
 
 use crate::chains::find_chain;

@@ -1,7 +1,6 @@
 //! Which chains pass each task, and which requirements name each chain.
 ghost use Rattle.std.specs.Prelude.{◌≡◌, ◌<◌, length, IfOk, OnOk};
-ghost use Rattle.cl_incr.specs.Inner.Listed.{StayListed, AreListedBelow};
-ghost use Rattle.cl_incr.specs.Inner.Passes.{IsListedAlong, ListChains, IsListedNamed, ListRequirements, ArePassesOf};
+ghost use Rattle.cl_incr.specs.Inner.{Listed.{StayListed, AreListedBelow}, Passes.{IsListedAlong, ListChains, IsListedNamed, ListRequirements, ArePassesOf}};
 
 use crate::numbers::{no_lists, put};
 use cl_model::{List, ValidModel};

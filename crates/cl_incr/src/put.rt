@@ -2,11 +2,8 @@
 ghost use Rattle.std.specs.Prelude.{◌≡◌, ℕ, ◌<◌, ◌⊎◌, length, All, Contains};
 ghost use Rattle.cl_model.specs.declared.model.SystemModel.{SystemModel};
 ghost use Rattle.cl_runs.specs.Requirements.{requirement_at};
-ghost use Rattle.cl_analyse.specs.Verdicts.{verdict_of, verdicts_of, verdict_at};
-ghost use Rattle.cl_analyse.specs.Findings.{AreFindings};
-ghost use Rattle.cl_incr.specs.Touched.{KeepsChains};
-ghost use Rattle.cl_incr.specs.Inner.News.{chains_found, AreNewsOf};
-ghost use Rattle.cl_incr.specs.Inner.Put.{ArePut};
+ghost use Rattle.cl_analyse.specs.{Verdicts.{verdict_of, verdicts_of, verdict_at}, Findings.AreFindings};
+ghost use Rattle.cl_incr.specs.{Touched.KeepsChains, Inner.{News.{chains_found, AreNewsOf}, Put.ArePut}};
 
 use crate::news::{FoundChain, News};
 use cl_analyse::{ChainAnswer, ExactAnswer, Findings, Verdict, judge};

@@ -1,11 +1,9 @@
 //! What an edit may change: the timings of tasks, a task or a chain that it adds or drops, or
 //! requirements.
 ghost use Rattle.std.specs.Prelude.{◌≡◌, ◌<◌, length, IfOk};
-ghost use Rattle.cl_model.specs.declared.model.SystemModel.{SystemModel};
-ghost use Rattle.cl_model.specs.ByNumber.{core_of};
+ghost use Rattle.cl_model.specs.{declared.model.SystemModel.SystemModel, ByNumber.core_of};
 ghost use Rattle.cl_edit.specs.Changing.{with_change, IsChangeOf};
-ghost use Rattle.cl_incr.specs.Touched.{Touches};
-ghost use Rattle.cl_incr.specs.Inner.Reach.{MovesTasks, Reaches, IsReachOf};
+ghost use Rattle.cl_incr.specs.{Touched.Touches, Inner.Reach.{MovesTasks, Reaches, IsReachOf}};
 
 use crate::shift::Shift;
 use crate::touch::{cores_of, one_task, tasks_of_other_kinds, tasks_set};

@@ -1,21 +1,11 @@
 //! Sessions: a model that is edited, and its findings.
 ghost use Rattle.std.specs.Prelude.{◌≡◌, ◌+◌, ◌*◌, ◌<◌, ◌≤◌, length, Ok, Err, IfOk, IfErr, OnOk, OnErr, All};
-ghost use Rattle.cl_model.specs.declared.model.SystemModel.{SystemModel};
-ghost use Rattle.cl_model.specs.declared.refusal.Refusal.{Refusal};
+ghost use Rattle.cl_model.specs.declared.{model.SystemModel.SystemModel, refusal.Refusal.Refusal};
 ghost use Rattle.cl_runs.specs.SystemOf.{system_of};
-ghost use Rattle.cl_bound.specs.declared.answer.TaskAnswer.TheVariants.{Late};
-ghost use Rattle.cl_bound.specs.Answers.{answers_of};
-ghost use Rattle.cl_edit.specs.Changing.{with_change, MayBeMade};
-ghost use Rattle.cl_edit.specs.Edited.{edited};
-ghost use Rattle.cl_edit.specs.Ranges.{IsEditInRange};
+ghost use Rattle.cl_bound.specs.{declared.answer.TaskAnswer.TheVariants.Late, Answers.answers_of};
+ghost use Rattle.cl_edit.specs.{Changing.{with_change, MayBeMade}, Edited.edited, Ranges.IsEditInRange};
 ghost use Rattle.cl_analyse.specs.Findings.{AreFindings};
-ghost use Rattle.cl_incr.specs.Changed.{AsksForChanges};
-ghost use Rattle.cl_incr.specs.Touched.{AreAnswersBut};
-ghost use Rattle.cl_incr.specs.Inner.IsTwin.{IsTwinOf};
-ghost use Rattle.cl_incr.specs.Inner.Passes.{ArePassesOf};
-ghost use Rattle.cl_incr.specs.Inner.News.{AreNewsOf};
-ghost use Rattle.cl_incr.specs.Inner.Reach.{Renumbers, Reaches, AddsChain, DropsChain, ChangesRequirements};
-ghost use Rattle.cl_incr.specs.Inner.Shift.{shifted};
+ghost use Rattle.cl_incr.specs.{Changed.AsksForChanges, Touched.AreAnswersBut, Inner.{IsTwin.IsTwinOf, Passes.ArePassesOf, News.AreNewsOf, Reach.{Renumbers, Reaches, AddsChain, DropsChain, ChangesRequirements}, Shift.shifted}};
 
 use crate::chain_lists::{drop_chain, judge_requirements, put_new_chain};
 use crate::chains::find_chain;

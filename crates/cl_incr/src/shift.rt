@@ -1,12 +1,9 @@
 //! The numbers that tasks get where one is added behind the others or is taken out, and what stands
 //! under them.
 ghost use Rattle.std.specs.Prelude.{◌≡◌, [], OnOk, IfOk};
-ghost use Rattle.cl_model.specs.declared.model.SystemModel.{SystemModel};
-ghost use Rattle.cl_model.specs.Validity.{IsValid};
+ghost use Rattle.cl_model.specs.{declared.model.SystemModel.SystemModel, Validity.IsValid};
 ghost use Rattle.cl_bound.specs.declared.answer.TaskAnswer.TheVariants.{Late};
-ghost use Rattle.cl_incr.specs.Inner.Passes.{ArePassesOf};
-ghost use Rattle.cl_incr.specs.Inner.Reach.{Renumbers};
-ghost use Rattle.cl_incr.specs.Inner.Shift.{number_before, moved, task_before, shifted};
+ghost use Rattle.cl_incr.specs.Inner.{Passes.ArePassesOf, Reach.Renumbers, Shift.{number_before, moved, task_before, shifted}};
 
 use crate::passing::Passing;
 use cl_bound::TaskAnswer;

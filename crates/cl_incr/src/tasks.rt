@@ -2,13 +2,10 @@
 //! and else new ones. Times are in ticks.
 ghost use Rattle.std.specs.Prelude.{◌≡◌, ℕ, ◌<◌, ◌↔◌, length, IfOk, IsTrue};
 ghost use Rattle.cl_model.specs.declared.model.SystemModel.{SystemModel};
-ghost use Rattle.cl_runs.specs.SystemOf.{system_of};
-ghost use Rattle.cl_runs.specs.TaskTiming.{timing_at};
+ghost use Rattle.cl_runs.specs.{SystemOf.system_of, TaskTiming.timing_at};
 ghost use Rattle.cl_bound.specs.Answers.{answer_to, answers_of};
 ghost use Rattle.cl_analyse.specs.Headline.{question_at};
-ghost use Rattle.cl_incr.specs.Changed.{IsChangedTask};
-ghost use Rattle.cl_incr.specs.Inner.Kept.{IsKeptTask};
-ghost use Rattle.cl_incr.specs.Inner.Asked.{AsksOne};
+ghost use Rattle.cl_incr.specs.{Changed.IsChangedTask, Inner.{Kept.IsKeptTask, Asked.AsksOne}};
 
 use cl_analyse::answer_question;
 use cl_bound::TaskAnswer;

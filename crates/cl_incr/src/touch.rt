@@ -2,8 +2,7 @@
 //! it may change, and the tasks of their cores, whose answers may change. Times are in ticks.
 ghost use Rattle.std.specs.Prelude.{◌≡◌, ℕ, ◌<◌, ◌⊎◌, ◌↔◌, [], ◌∷◌, ◌++◌, cond, length, map, IsTrue, IfOk, OnOk, All, Contains};
 ghost use Rattle.std.specs.List.Sorted.{IsStrictlyIncreasing};
-ghost use Rattle.cl_model.specs.declared.changes.TaskPriority.{TaskPriority};
-ghost use Rattle.cl_model.specs.ByNumber.{core_of, stimulus_of, tasks_of_core};
+ghost use Rattle.cl_model.specs.{declared.changes.TaskPriority.TaskPriority, ByNumber.{core_of, stimulus_of, tasks_of_core}};
 ghost use Rattle.cl_incr.specs.Touched.{Touches};
 
 use crate::numbers::put_in_order;

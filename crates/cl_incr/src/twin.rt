@@ -1,11 +1,9 @@
 //! A copy of a model with the answers for its tasks, which the next edit changes. Times are in
 //! ticks.
 ghost use Rattle.std.specs.Prelude.{◌≡◌, ℕ, ◌<◌, ◌⊎◌, length, IfOk, IfSome, All, Contains};
-ghost use Rattle.cl_bound.specs.declared.answer.TaskAnswer.TheVariants.{Late};
-ghost use Rattle.cl_bound.specs.Answers.{answer_at};
+ghost use Rattle.cl_bound.specs.{declared.answer.TaskAnswer.TheVariants.Late, Answers.answer_at};
 ghost use Rattle.cl_edit.specs.Changing.{with_change, MayBeMade};
-ghost use Rattle.cl_incr.specs.Inner.IsTwin.{IsTwinOf};
-ghost use Rattle.cl_incr.specs.Inner.Shift.{shifted};
+ghost use Rattle.cl_incr.specs.Inner.{IsTwin.IsTwinOf, Shift.shifted};
 
 use crate::shift::{Shift, shift_answers};
 use cl_bound::TaskAnswer;

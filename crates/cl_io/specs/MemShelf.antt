@@ -3,15 +3,8 @@ use Rattle.std.specs.Prelude.{◌≡◌, ℕ, Bool, true, false, ◌||◌, ◌==
 use Rattle.std.specs.List.{list_any}
 use Rattle.std.specs.Option.{option_map_or}
 use Rattle.std.specs.declared.alloc.Global.{Global}
-use Rattle.cl_io.specs.declared.fault.FetchFault.{FetchFault}
-use Rattle.cl_io.specs.declared.fault.FetchFault.TheVariants.{Failed, Long, NoMemory}
-use Rattle.cl_io.specs.declared.mem_shelf.MemShelf.{MemShelf}
-use Rattle.cl_io.specs.declared.sure_shelf.SureShelf.{SureShelf}
-use Rattle.cl_io.specs.declared.name_numbers.Numbers.{Numbers}
-use Rattle.cl_io.specs.Counts.{counted}
-use Rattle.cl_io.specs.NameNumbers.{numbers_of, longest_of}
-use Rattle.cl_io.specs.Files.{file_of}
-use Rattle.cl_io.specs.Shelf.{Held, Absent, Content}
+use Rattle.cl_io.specs.{declared.{fault.FetchFault.{FetchFault, TheVariants.{Failed, Long, NoMemory}}, mem_shelf.MemShelf.MemShelf, sure_shelf.SureShelf.SureShelf, name_numbers.Numbers.Numbers}, Counts.counted, NameNumbers.{numbers_of, longest_of}, Files.file_of, Shelf.{Held, Absent}}
+use Rattle.cl_io.specs.Shelf.{Content}
 
 -- what a memory shelf holds under a name
 abbrev pub mem_held : MemShelf → List ℕ → Held

@@ -1,9 +1,7 @@
 -- A sink in memory.
 use Rattle.std.specs.Prelude.{ℕ, ◌-◌, min, Bool, true, false, ◌||◌, ◌==◌, if◌then◌else◌, List, [], ◌++◌, length, take, Result, Ok, Err}
 use Rattle.std.specs.List.{list_any}
-use Rattle.cl_io.specs.declared.fault.SinkFault.{SinkFault}
-use Rattle.cl_io.specs.Counts.{counted}
-use Rattle.cl_io.specs.declared.fault.SinkFault.TheVariants.{Failed}
+use Rattle.cl_io.specs.{declared.fault.SinkFault.{SinkFault, TheVariants.Failed}, Counts.counted}
 
 pub record MemSinkState : Type 0 where
   -- all that was written

@@ -1,8 +1,7 @@
 -- The two numbers that a shelf keeps for each name.
 use Rattle.std.specs.Prelude.{ℕ, List, IsSome, unwrap_or}
 use Rattle.std.specs.BTreeMap.{get_by_text}
-use Rattle.cl_io.specs.declared.name_numbers.Numbers.{Numbers}
-use Rattle.cl_io.specs.declared.name_numbers.NameNumbers.{NameNumbers}
+use Rattle.cl_io.specs.declared.name_numbers.{Numbers.Numbers, NameNumbers.NameNumbers}
 
 -- of a name that was never fetched
 abbrev pub no_numbers : Numbers

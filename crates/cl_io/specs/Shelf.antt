@@ -1,10 +1,7 @@
 -- What lies under a name, and what a fetch of it may answer.
 use Rattle.std.specs.Prelude.{◌≡◌, ◌⊎◌, ℕ, ◌<◌, ◌≤◌, max, List, length, Result, Ok, Err, Vec}
 use Rattle.std.specs.declared.alloc.Global.{Global}
-use Rattle.cl_io.specs.declared.fault.FetchFault.{FetchFault}
-use Rattle.cl_io.specs.declared.name_numbers.Numbers.{Numbers}
-use Rattle.cl_io.specs.Counts.{Rose}
-use Rattle.cl_io.specs.declared.fault.FetchFault.TheVariants.{Failed, Long, NoMemory}
+use Rattle.cl_io.specs.{declared.{fault.FetchFault.{FetchFault, TheVariants.{Failed, Long, NoMemory}}, name_numbers.Numbers.Numbers}, Counts.Rose}
 
 -- what a shelf holds under a name
 pub data Held : Type 0 where

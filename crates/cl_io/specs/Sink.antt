@@ -1,10 +1,8 @@
 -- What a sink may do with a piece.
 use Rattle.std.specs.Prelude.{◌≡◌, ℕ, ◌<◌, ◌≤◌, List, ◌++◌, length, take, Option, Result, Ok, Err}
 use Rattle.std.specs.Option.{option_map}
-use Rattle.cl_io.specs.Counts.{Rose}
-use Rattle.cl_io.specs.declared.fault.SinkFault.{SinkFault}
+use Rattle.cl_io.specs.{Counts.Rose, declared.fault.{SinkFault.SinkFault, WriteFault.WriteFault}}
 use Rattle.cl_io.specs.declared.fault.SinkFault.TheVariants as sink_fault
-use Rattle.cl_io.specs.declared.fault.WriteFault.{WriteFault}
 use Rattle.cl_io.specs.declared.fault.WriteFault.TheVariants as write_fault
 
 -- what is written once these bytes are taken too, where the sink tells it

@@ -1,7 +1,6 @@
 ghost use Rattle.std.specs.Prelude.{◌≡◌, None, Some, OnOk, OnErr};
 ghost use Rattle.std.specs.Option.{option_copied};
-ghost use Rattle.cl_io.specs.Names.{ChangesAlone, SameAtEach};
-ghost use Rattle.cl_io.specs.Files.{file_of};
+ghost use Rattle.cl_io.specs.{Names.{ChangesAlone, SameAtEach}, Files.file_of};
 
 use cl_time::NoMemory;
 use std::alloc::Global;

@@ -1,10 +1,6 @@
 ghost use Rattle.std.specs.Prelude.{◌≡◌, ◌∷◌, ◌++◌, ◌+◌, ◌-◌, ◌^◌, List, [], ℕ, min, OnOk, OnErr};
-ghost use Rattle.cl_io.specs.Counts.{RisesAlone};
-ghost use Rattle.cl_io.specs.Names.{ChangesAlone, SameAtEach};
-ghost use Rattle.cl_io.specs.NameNumbers.{no_numbers, faults_of, longest_of, IsEntered};
-ghost use Rattle.cl_io.specs.Shelf.{Absent, Content, MayAnswer};
-ghost use Rattle.cl_io.specs.Inner.Giving.{IsGiven};
-ghost use Rattle.cl_io.specs.MemShelf.{mem_held, mem_numbers, failing_calls, calls_made, fetch_fails_next, FailsExactly, CountsFaults};
+ghost use Rattle.cl_io.specs.{Counts.RisesAlone, Names.{ChangesAlone, SameAtEach}, NameNumbers.{no_numbers, faults_of, longest_of, IsEntered}, Shelf.{Absent, Content, MayAnswer}, Inner.Giving.IsGiven, MemShelf.{mem_held, mem_numbers, failing_calls, calls_made, fetch_fails_next}};
+ghost use Rattle.cl_io.specs.MemShelf.{FailsExactly, CountsFaults};
 
 use crate::files::Files;
 use crate::{FetchFault, NameNumbers, Shelf};

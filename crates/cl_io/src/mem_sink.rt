@@ -1,7 +1,5 @@
 ghost use Rattle.std.specs.Prelude.{◌≡◌, ◌↔◌, IsTrue, [], ◌∷◌, ◌++◌, ◌<◌, ◌≤◌, Some, IsErr, IfOk, OnOk, OnErr};
-ghost use Rattle.cl_io.specs.Counts.{counted};
-ghost use Rattle.cl_io.specs.Sink.{MayTake};
-ghost use Rattle.cl_io.specs.MemSink.{new_sink, answer_of, after_write};
+ghost use Rattle.cl_io.specs.{Counts.counted, Sink.MayTake, MemSink.{new_sink, answer_of, after_write}};
 
 use crate::{Sink, SinkFault};
 use cl_time::NoMemory;

@@ -1,7 +1,5 @@
 ghost use Rattle.std.specs.Prelude.{◌≡◌, ◌+◌, ◌-◌, ◌^◌, min, max, OnOk};
-ghost use Rattle.cl_io.specs.Counts.{RisesAlone};
-ghost use Rattle.cl_io.specs.Names.{ChangesAlone, SameAtEach};
-ghost use Rattle.cl_io.specs.NameNumbers.{no_numbers, numbers_of, faults_of, longest_of, IsEntered};
+ghost use Rattle.cl_io.specs.{Counts.RisesAlone, Names.{ChangesAlone, SameAtEach}, NameNumbers.{no_numbers, numbers_of, faults_of, longest_of, IsEntered}};
 
 use cl_time::NoMemory;
 use std::alloc::Global;

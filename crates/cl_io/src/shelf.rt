@@ -1,7 +1,5 @@
 ghost use Rattle.std.specs.Prelude.{List, ℕ};
-ghost use Rattle.cl_io.specs.Counts.{RisesAlone};
-ghost use Rattle.cl_io.specs.Names.{SameAtEach};
-ghost use Rattle.cl_io.specs.Shelf.{Held, MayAnswer};
+ghost use Rattle.cl_io.specs.{Counts.RisesAlone, Names.SameAtEach, Shelf.{Held, MayAnswer}};
 
 use crate::FetchFault;
 use std::alloc::Global;

@@ -1,6 +1,5 @@
 ghost use Rattle.std.specs.Prelude.{◌≡◌, ◌↔◌, ℕ, ◌≤◌, Bool, IsTrue, List, [], Option, IsErr, OnErr};
-ghost use Rattle.cl_io.specs.Counts.{counted};
-ghost use Rattle.cl_io.specs.Sink.{MayTake, MayWrite};
+ghost use Rattle.cl_io.specs.{Counts.counted, Sink.{MayTake, MayWrite}};
 
 use crate::{SinkFault, WriteFault};
 

@@ -1,7 +1,5 @@
 ghost use Rattle.std.specs.Prelude.{List, [], ℕ, OnOk, OnErr};
-ghost use Rattle.cl_io.specs.Names.{ChangesAlone, SameAtEach};
-ghost use Rattle.cl_io.specs.Shelf.{Content};
-ghost use Rattle.cl_io.specs.MemShelf.{sure_held, sure_longest};
+ghost use Rattle.cl_io.specs.{Names.{ChangesAlone, SameAtEach}, Shelf.Content, MemShelf.{sure_held, sure_longest}};
 
 use crate::files::Files;
 use crate::mem_shelf::give;

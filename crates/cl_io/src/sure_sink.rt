@@ -1,6 +1,5 @@
 ghost use Rattle.std.specs.Prelude.{◌≡◌, ◌↔◌, ◌+◌, ◌-◌, ◌^◌, ◌≤◌, IsTrue, false, List, ℕ, None, Ok, IsErr, OnErr, min, length};
-ghost use Rattle.cl_io.specs.Counts.{counted};
-ghost use Rattle.cl_io.specs.Sink.{MayTake};
+ghost use Rattle.cl_io.specs.{Counts.counted, Sink.MayTake};
 
 use crate::{Sink, SinkFault};
 use std::marker::Model;

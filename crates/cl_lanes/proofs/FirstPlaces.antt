@@ -4,9 +4,7 @@ use Rattle.std.specs.List.{position_or_len}
 use Rattle.std.proofs.lemmas.Bool.{cases_lt, lt-ltb, le-ltb}
 use Rattle.std.proofs.lemmas.List.Sums.{position_or_len_is}
 use Rattle.cl_lanes.proofs.GapNumbers.{length-gaps, has_gap, lacks_gap}
-use Rattle.cl_lanes.specs.Gaps.{gaps, IsFirst}
-use Rattle.cl_lanes.specs.Inner.Chunks.{AreChunks}
-use Rattle.cl_lanes.specs.Inner.Places.{ArePaired, AreWithout}
+use Rattle.cl_lanes.specs.{Gaps.{gaps, IsFirst}, Inner.{Chunks.AreChunks, Places.{ArePaired, AreWithout}}}
 
 -- the first lanes of a chunk without the gap, after chunks without it
 pub without_more : (ends starts : List ℕ) (end_chunks start_chunks : List (List ℕ)) (i lanes gap : ℕ)

@@ -2,8 +2,7 @@
 use Rattle.std.proofs.Common.{◌≡◌, ◌≢◌, ℕ, ◌+◌, ◌-◌, ◌<◌, true, false, eqb, List, length, get_or, arith}
 use Rattle.std.proofs.lemmas.Simd.{length-zip2, get_or-zip2}
 use Rattle.std.proofs.lemmas.Bool.{eq-eqb, ne_eqb}
-use Rattle.cl_lanes.specs.Gaps.{gaps}
-use Rattle.cl_lanes.specs.Inner.Places.{ArePaired}
+use Rattle.cl_lanes.specs.{Gaps.gaps, Inner.Places.ArePaired}
 
 pub length-gaps : (ends starts : List ℕ) → length ends ≡ length starts → length (gaps ends starts) ≡ length ends
 length-gaps ends starts many = length-zip2 (λ end start. end - start) ends starts many

@@ -2,9 +2,7 @@
 use Rattle.std.proofs.Common.{◌≡◌, ℕ, ◌+◌, ◌*◌, ◌/◌, ◌%◌, ◌<◌, ◌≤◌, List, length, get_or, max, subst, arith, inl, inr}
 use Rattle.std.proofs.lemmas.Bool.{cases_lt}
 use Rattle.cl_lanes.proofs.GapNumbers.{length-gaps, get_or-gaps}
-use Rattle.cl_lanes.specs.Gaps.{gaps, IsGreatest}
-use Rattle.cl_lanes.specs.Inner.Chunks.{AreAboveLanes}
-use Rattle.cl_lanes.specs.Inner.Places.{IsAbove, IsGap}
+use Rattle.cl_lanes.specs.{Gaps.{gaps, IsGreatest}, Inner.{Chunks.AreAboveLanes, Places.{IsAbove, IsGap}}}
 
 -- the greater of two gaps is a gap
 pub greater_gap : (ends starts : List ℕ) (a b greater : ℕ) → greater ≡ max a b → IsGap ends starts a → IsGap ends starts b → IsGap ends starts greater

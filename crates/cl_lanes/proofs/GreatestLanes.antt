@@ -4,9 +4,7 @@ use Rattle.std.specs.Simd.Lanes.{zip2, sel_l, top}
 use Rattle.std.proofs.lemmas.Bool.{cases_lt, ltb-true, ltb-false}
 use Rattle.std.proofs.lemmas.Simd.{tops_compared, length-zip2, get_or-zip2, length-sel_l, get_or-sel_l}
 use Rattle.cl_lanes.proofs.GapNumbers.{length-gaps, get_or-gaps}
-use Rattle.cl_lanes.specs.Gaps.{gaps, HasGap}
-use Rattle.cl_lanes.specs.Inner.Chunks.{AreAboveLanes, AreChunks}
-use Rattle.cl_lanes.specs.Inner.Places.{ArePaired, IsGap}
+use Rattle.cl_lanes.specs.{Gaps.{gaps, HasGap}, Inner.{Chunks.{AreAboveLanes, AreChunks}, Places.{ArePaired, IsGap}}}
 
 -- the greater of two numbers, as lanes are chosen
 abbrev greater : ℕ → ℕ → ℕ

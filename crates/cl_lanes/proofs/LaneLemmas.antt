@@ -8,8 +8,7 @@ use Rattle.std.proofs.lemmas.Bool.{eqb-true, eqb-false}
 use Rattle.std.proofs.lemmas.List.Sums.{fails_before_first, passes_at_first}
 use Rattle.std.proofs.lemmas.Simd.{bitmask_splat, leading_from_mask_l, trailing_mask_l}
 use Rattle.cl_lanes.proofs.GapNumbers.{length-gaps, get_or-gaps}
-use Rattle.cl_lanes.specs.Gaps.{gaps, IsFirst}
-use Rattle.cl_lanes.specs.Inner.Places.{ArePaired, AreWithout}
+use Rattle.cl_lanes.specs.{Gaps.{gaps, IsFirst}, Inner.Places.{ArePaired, AreWithout}}
 
 -- lanes in order, as a subtraction asks it
 pub lanes_in_order : (ends starts : List ℕ) → length ends ≡ length starts → EachIndex ends (λ i. get_or starts i 0 ≤ get_or ends i 0)

@@ -1,6 +1,5 @@
 ghost use Rattle.std.specs.Prelude.{◌≡◌, ℕ, ◌*◌, ◌/◌, ◌≤◌, ◌==◌, length, slice_index, position, EachIndex, IfNone, IfSome, MatchOption};
-ghost use Rattle.cl_lanes.specs.Gaps.{gaps, HasGap, IsFirst};
-ghost use Rattle.cl_lanes.specs.Inner.Places.{ArePaired, AreWithout};
+ghost use Rattle.cl_lanes.specs.{Gaps.{gaps, HasGap, IsFirst}, Inner.Places.{ArePaired, AreWithout}};
 
 use crate::lanes::{first_lane, full_chunks};
 

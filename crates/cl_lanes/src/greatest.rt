@@ -1,7 +1,5 @@
 ghost use Rattle.std.specs.Prelude.{◌≡◌, ℕ, ◌+◌, ◌*◌, ◌/◌, ◌<◌, ◌≤◌, ◌↔◌, length, slice_index, EachIndex, SomeIndex, IsNone, IfSome};
-ghost use Rattle.cl_lanes.specs.Gaps.{gaps, HasGap, IsGreatest};
-ghost use Rattle.cl_lanes.specs.Inner.Chunks.{AreAboveLanes};
-ghost use Rattle.cl_lanes.specs.Inner.Places.{ArePaired, IsAbove, IsGap};
+ghost use Rattle.cl_lanes.specs.{Gaps.{gaps, HasGap, IsGreatest}, Inner.{Chunks.AreAboveLanes, Places.{ArePaired, IsAbove, IsGap}}};
 
 use crate::lanes::{full_chunks, lane_gaps};
 use std::simd::prelude::*;

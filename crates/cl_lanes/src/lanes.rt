@@ -1,7 +1,5 @@
 ghost use Rattle.std.specs.Prelude.{◌≡◌, MatchOption};
-ghost use Rattle.cl_lanes.specs.Gaps.{gaps, IsFirst};
-ghost use Rattle.cl_lanes.specs.Inner.Chunks.{AreChunks};
-ghost use Rattle.cl_lanes.specs.Inner.Places.{ArePaired, AreWithout};
+ghost use Rattle.cl_lanes.specs.{Gaps.{gaps, IsFirst}, Inner.{Chunks.AreChunks, Places.{ArePaired, AreWithout}}};
 
 use std::simd::prelude::*;
 

@@ -7,11 +7,8 @@ use Rattle.std.proofs.lemmas.Int.{ints}
 use Rattle.std.proofs.lemmas.Bool.{cases_Bool, cases_lt}
 use Rattle.std.proofs.lemmas.Bool.Decides.{nat_tests}
 use Rattle.std.proofs.lemmas.List.Sums.{sum_by-cons}
-use Rattle.cl_runs.specs.declared.job.Job.{Job}
-use Rattle.cl_runs.specs.Table.{job_at}
-use Rattle.cl_runs.specs.ArrivalsByKind.{FollowsPeriod}
-use Rattle.cl_stim.specs.Phase.{IsPhase, IsArrivalOf, arrives_at}
-use Rattle.cl_stim.specs.Releases.{releases_in}
+use Rattle.cl_runs.specs.{declared.job.Job.Job, Table.job_at, ArrivalsByKind.FollowsPeriod}
+use Rattle.cl_stim.specs.{Phase.{IsPhase, IsArrivalOf, arrives_at}, Releases.releases_in}
 use Rattle.cl_stim.proofs.ArrivalTests.{arrives_from_test}
 use Rattle.cl_cycle.specs.Counts.{arrivals_from}
 use Rattle.cl_cycle.proofs.CountedTicks.{one_if, none_in_none, longer}

@@ -4,26 +4,12 @@ use Rattle.std.proofs.Common.{◌≡◌, ℕ, ◌+◌, ◌<◌, ◌≤◌, inl, 
 use Rattle.std.specs.Int.{◌∣◌}
 use Rattle.std.proofs.lemmas.Bool.{cases_lt}
 use Rattle.std.proofs.lemmas.List.{get_or_past}
-use Rattle.cl_model.specs.declared.model.SystemModel.{SystemModel}
-use Rattle.cl_model.specs.declared.stimulus.StimulusKind.{StimulusKind}
-use Rattle.cl_model.specs.declared.stimulus.StimulusKind.TheVariants.{Periodic}
-use Rattle.cl_model.specs.ByNumber.{stimulus_of}
-use Rattle.cl_model.specs.Timing.{IsKindOrdered}
-use Rattle.cl_model.specs.Validity.{IsValid}
-use Rattle.cl_runs.specs.SystemOf.{system_of}
-use Rattle.cl_runs.specs.TaskTiming.{Timing, System, timing_at, no_timing, IsSound}
-use Rattle.cl_runs.specs.Table.{job_at}
-use Rattle.cl_runs.specs.Run.{Run, jobs_of}
-use Rattle.cl_runs.specs.Legal.{IsLegal}
-use Rattle.cl_runs.specs.Moments.{Reads}
-use Rattle.cl_runs.proofs.LegalFacts.{place_of_task}
-use Rattle.cl_runs.proofs.ModelSystem.{timing_is, count_is, system_sound}
-use Rattle.cl_stim.specs.declared.phase.Phase.{Phase}
-use Rattle.cl_stim.specs.Phase.{phase_of}
+use Rattle.cl_model.specs.{declared.{model.SystemModel.SystemModel, stimulus.StimulusKind.{StimulusKind, TheVariants.Periodic}}, ByNumber.stimulus_of, Timing.IsKindOrdered, Validity.IsValid}
+use Rattle.cl_runs.specs.{SystemOf.system_of, TaskTiming.{Timing, System, timing_at, no_timing, IsSound}, Table.job_at, Run.{Run, jobs_of}, Legal.IsLegal, Moments.Reads}
+use Rattle.cl_runs.proofs.{LegalFacts.place_of_task, ModelSystem.{timing_is, count_is, system_sound}}
+use Rattle.cl_stim.specs.{declared.phase.Phase.Phase, Phase.phase_of}
 use Rattle.cl_stim.proofs.ValidStimuli.{has_stimulus}
-use Rattle.cl_cycle.specs.Counts.{each_moment}
-use Rattle.cl_cycle.specs.Cycles.{is_one_of, in_phase_above, cycle_of}
-use Rattle.cl_cycle.specs.Promises.{ComesRound}
+use Rattle.cl_cycle.specs.{Counts.each_moment, Cycles.{is_one_of, in_phase_above, cycle_of}, Promises.ComesRound}
 use Rattle.cl_cycle.proofs.CycleMembers.{cycle_positive, own_divides, members_come_round}
 use Rattle.cl_lead.specs.Leads.{lead_at, IsCommonCycle}
 use Rattle.cl_lead.proofs.LeadReads.{some_period, reads_after_lead}

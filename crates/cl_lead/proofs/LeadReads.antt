@@ -9,29 +9,16 @@ use Rattle.std.proofs.lemmas.Bool.Decides.{nat_tests}
 use Rattle.std.proofs.lemmas.Int.{ints}
 use Rattle.std.proofs.lemmas.List.Sums.{sum_by-cons}
 use Rattle.std.proofs.lemmas.Nat.{div-add-mod', mod_below}
-use Rattle.cl_model.specs.declared.stimulus.StimulusKind.{StimulusKind}
-use Rattle.cl_model.specs.declared.stimulus.StimulusKind.TheVariants.{Periodic, Sporadic, Burst}
-use Rattle.cl_model.specs.declared.task.AccessKind.{AccessKind}
-use Rattle.cl_model.specs.declared.task.AccessKind.TheVariants.{Explicit, Implicit, Timed}
-use Rattle.cl_runs.specs.TaskTiming.{System, timing_at, IsSound}
-use Rattle.cl_runs.specs.Table.{job_at}
-use Rattle.cl_runs.specs.Run.{Run, jobs_of}
-use Rattle.cl_runs.specs.Legal.{IsLegal}
-use Rattle.cl_runs.specs.Moments.{Starts, ReadsBy, Reads}
-use Rattle.cl_runs.specs.Priorities.{tasks_above}
+use Rattle.cl_model.specs.declared.{stimulus.StimulusKind.{StimulusKind, TheVariants.{Periodic, Sporadic, Burst}}, task.AccessKind.{AccessKind, TheVariants.{Explicit, Implicit, Timed}}}
+use Rattle.cl_runs.specs.{TaskTiming.{System, timing_at, IsSound}, Table.job_at, Run.{Run, jobs_of}, Legal.IsLegal, Moments.{Starts, ReadsBy, Reads}, Priorities.tasks_above}
 use Rattle.cl_runs.proofs.LegalFacts.{place_of_task}
-use Rattle.cl_stim.specs.declared.phase.Phase.{Phase}
-use Rattle.cl_stim.specs.Phase.{IsPhase, phase_of, arrives_at}
-use Rattle.cl_stim.proofs.ArrivalTests.{arrives_from_test, test_from_arrival}
-use Rattle.cl_stim.proofs.PatternPhases.{phase_is}
-use Rattle.cl_stim.proofs.RunPhases.{run_arrives}
+use Rattle.cl_stim.specs.{declared.phase.Phase.Phase, Phase.{IsPhase, phase_of, arrives_at}}
+use Rattle.cl_stim.proofs.{ArrivalTests.{arrives_from_test, test_from_arrival}, PatternPhases.phase_is, RunPhases.run_arrives}
 use Rattle.cl_comm.specs.Windows.{least_times, spot_at}
 use Rattle.cl_cycle.specs.Counts.{arrivals_from, arrivals_of, each_moment}
 use Rattle.cl_cycle.proofs.CountedTicks.{one_if, arriving, none_in_none, earlier, comes_round}
-use Rattle.cl_lead.specs.Ahead.{Ahead, ticks_taken, least_lead, MayLead}
-use Rattle.cl_lead.specs.Leads.{each_period, surely_released, surely_taken, work_above, ahead_of, before_read, lead_if, lead_with, IsCommonCycle}
-use Rattle.cl_lead.proofs.LeastLeads.{lead_within, lead_least, test_from_lead}
-use Rattle.cl_lead.proofs.LeadStarts.{start_late, ahead_fits}
+use Rattle.cl_lead.specs.{Ahead.{Ahead, ticks_taken, least_lead, MayLead}, Leads.{each_period, surely_released, surely_taken, work_above, ahead_of, before_read, lead_if, lead_with, IsCommonCycle}}
+use Rattle.cl_lead.proofs.{LeastLeads.{lead_within, lead_least, test_from_lead}, LeadStarts.{start_late, ahead_fits}}
 
 -- ---- whole cycles later as many are released
 

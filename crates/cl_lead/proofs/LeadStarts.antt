@@ -2,23 +2,11 @@
 -- that is surely released up to the start went before it, and what its own job executed.
 use Rattle.std.proofs.Common.{◌≡◌, ℕ, ◌+◌, ◌<◌, ◌≤◌, inl, inr, Bool, true, cond, nat_le, length, subst, arith}
 use Rattle.std.proofs.lemmas.Bool.{cases_lt, cases_Bool, cond-true, cond-false, leb-true}
-use Rattle.cl_runs.specs.TaskTiming.{System, timing_at, IsSound}
-use Rattle.cl_runs.specs.Table.{job_at}
-use Rattle.cl_runs.specs.Run.{Run, jobs_of, executed}
-use Rattle.cl_runs.specs.Legal.{released, IsHighestPending, IsLegal}
-use Rattle.cl_runs.specs.Moments.{Starts}
-use Rattle.cl_runs.proofs.Climbing.{climb_mono}
-use Rattle.cl_runs.proofs.Executed.{executed_climbs}
-use Rattle.cl_runs.proofs.Holding.{start_pending}
-use Rattle.cl_runs.proofs.JobProgress.{executed_by_release, starts_late}
-use Rattle.cl_runs.proofs.LegalFacts.{job_times}
-use Rattle.cl_runs.proofs.RunArrivals.{released_late}
-use Rattle.cl_comm.specs.Windows.{spot_at}
-use Rattle.cl_comm.specs.Inner.LeastTimes.{least_before}
+use Rattle.cl_runs.specs.{TaskTiming.{System, timing_at, IsSound}, Table.job_at, Run.{Run, jobs_of, executed}, Legal.{released, IsHighestPending, IsLegal}, Moments.Starts}
+use Rattle.cl_runs.proofs.{Climbing.climb_mono, Executed.executed_climbs, Holding.start_pending, JobProgress.{executed_by_release, starts_late}, LegalFacts.job_times, RunArrivals.released_late}
+use Rattle.cl_comm.specs.{Windows.spot_at, Inner.LeastTimes.least_before}
 use Rattle.cl_lead.specs.Leads.{surely_taken, work_above}
-use Rattle.cl_lead.proofs.LeadTotals.{total_more, total_of_range}
-use Rattle.cl_lead.proofs.LeadTicks.{above, above_core, above_priority, executed_slow}
-use Rattle.cl_lead.proofs.LeadWork.{IsEarly, sure_executed}
+use Rattle.cl_lead.proofs.{LeadTotals.{total_more, total_of_range}, LeadTicks.{above, above_core, above_priority, executed_slow}, LeadWork.{IsEarly, sure_executed}}
 
 module _ (system : System) (sound : IsSound system) (run : Run) (legal : IsLegal system run) (i : ℕ) (is : i < length system.tasks)
     (k p t : ℕ) (starts : Starts system run i k p t) where

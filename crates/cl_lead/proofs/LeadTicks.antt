@@ -1,9 +1,7 @@
 -- A core executes one task a tick, so a task and those above it execute no more ticks than pass.
 use Rattle.std.proofs.Common.{◌≡◌, ℕ, zero, suc, ◌+◌, ◌<◌, ◌≤◌, inl, inr, Some, Bool, true, length, ap, sym, ◌∙◌, arith}
 use Rattle.std.proofs.lemmas.Bool.{cases_eq, and_parts, eqb-true, ltb-true}
-use Rattle.cl_runs.specs.TaskTiming.{System, timing_at}
-use Rattle.cl_runs.specs.Run.{Run, entry_at, executed}
-use Rattle.cl_runs.specs.Priorities.{is_above}
+use Rattle.cl_runs.specs.{TaskTiming.{System, timing_at}, Run.{Run, entry_at, executed}, Priorities.is_above}
 use Rattle.cl_runs.proofs.Executed.{executed_climbs, executed_grew}
 use Rattle.cl_lead.proofs.LeadTotals.{total, total_rises, total_one_more, stays_unless}
 

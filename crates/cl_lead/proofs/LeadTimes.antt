@@ -1,14 +1,11 @@
 -- Where the least times before a runnable are no more than the deadline, the lead is no less than
 -- those before the read, and no more than the deadline.
 use Rattle.std.proofs.Common.{ℕ, ◌≤◌, inl, inr, Bool, Option, Some, None, arith}
-use Rattle.cl_model.specs.declared.task.AccessKind.{AccessKind}
-use Rattle.cl_model.specs.declared.task.AccessKind.TheVariants.{Explicit, Implicit, Timed}
+use Rattle.cl_model.specs.declared.task.AccessKind.{AccessKind, TheVariants.{Explicit, Implicit, Timed}}
 use Rattle.cl_runs.specs.TaskTiming.{System, timing_at}
-use Rattle.cl_stim.specs.declared.phase.Phase.{Phase}
-use Rattle.cl_stim.specs.Phase.{phase_of}
+use Rattle.cl_stim.specs.{declared.phase.Phase.Phase, Phase.phase_of}
 use Rattle.cl_comm.specs.Windows.{spot_at}
-use Rattle.cl_lead.specs.Ahead.{Ahead, least_lead}
-use Rattle.cl_lead.specs.Leads.{ahead_of, before_read, lead_if, lead_with}
+use Rattle.cl_lead.specs.{Ahead.{Ahead, least_lead}, Leads.{ahead_of, before_read, lead_if, lead_with}}
 use Rattle.cl_lead.proofs.LeastLeads.{lead_there, lead_within}
 
 least_from : (ahead : Ahead) → ahead.before ≤ ahead.deadline → ahead.before ≤ least_lead ahead

@@ -7,19 +7,9 @@ use Rattle.std.specs.List.{AllZip}
 use Rattle.std.proofs.lemmas.Bool.Decides.{nat_tests}
 use Rattle.std.proofs.lemmas.List.Elements.{All-head, All-tail}
 use Rattle.std.proofs.lemmas.List.Sums.{sum_by-cons}
-use Rattle.cl_model.specs.declared.stimulus.StimulusKind.{StimulusKind}
-use Rattle.cl_model.specs.declared.stimulus.StimulusKind.TheVariants.{Periodic, Sporadic, Burst}
-use Rattle.cl_runs.specs.Pattern.{IsPattern}
-use Rattle.cl_runs.specs.TaskTiming.{TimeRange, Timing, System, timing_at, IsSound}
-use Rattle.cl_runs.specs.declared.job.Job.{Job}
-use Rattle.cl_runs.specs.Arrivals.{FollowPattern}
-use Rattle.cl_runs.specs.Table.{LiesIn, HasTimes}
-use Rattle.cl_runs.specs.Run.{Run, jobs_of, executed}
-use Rattle.cl_runs.specs.Legal.{released, IsLegal}
-use Rattle.cl_runs.proofs.Executed.{executed_zero, executed_climbs, executed_grew}
-use Rattle.cl_runs.proofs.LegalFacts.{executed_released, running_pending}
-use Rattle.cl_runs.proofs.PatternLaws.{pattern_period}
-use Rattle.cl_runs.proofs.RunArrivals.{follow_pattern}
+use Rattle.cl_model.specs.declared.stimulus.StimulusKind.{StimulusKind, TheVariants.{Periodic, Sporadic, Burst}}
+use Rattle.cl_runs.specs.{Pattern.IsPattern, TaskTiming.{TimeRange, Timing, System, timing_at, IsSound}, declared.job.Job.Job, Arrivals.FollowPattern, Table.{LiesIn, HasTimes}, Run.{Run, jobs_of, executed}, Legal.{released, IsLegal}}
+use Rattle.cl_runs.proofs.{Executed.{executed_zero, executed_climbs, executed_grew}, LegalFacts.{executed_released, running_pending}, PatternLaws.pattern_period, RunArrivals.follow_pattern}
 use Rattle.cl_stim.specs.Releases.{releases_in}
 use Rattle.cl_comm.specs.Windows.{least_times}
 use Rattle.cl_lead.specs.Leads.{surely_released}

@@ -6,8 +6,7 @@ use Rattle.std.specs.List.{range_with_len}
 use Rattle.std.proofs.lemmas.Int.{ints}
 use Rattle.std.proofs.lemmas.Bool.{leb-true, le-leb}
 use Rattle.cl_stim.specs.Phase.{IsPhase, last_arrival, arrives_at}
-use Rattle.cl_stim.proofs.ArrivalTests.{arrives_from_test, test_from_arrival}
-use Rattle.cl_stim.proofs.PhaseSteps.{last_before}
+use Rattle.cl_stim.proofs.{ArrivalTests.{arrives_from_test, test_from_arrival}, PhaseSteps.last_before}
 use Rattle.cl_lead.specs.Ahead.{Ahead, ticks_taken, moments_back, may_start, may_lead, least_lead, MayStartAt, MayLead, IsLead}
 use Rattle.cl_lead.proofs.LeadRanges.{each_passes, all_pass, found_none, found_from, found_below, found_passes, found_first, some_of_them_passes, one_of_them_passes}
 

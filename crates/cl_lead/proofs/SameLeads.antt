@@ -8,12 +8,9 @@ use Rattle.std.proofs.Math.ListN.{get_or-map}
 use Rattle.cl_runs.specs.TaskTiming.{TimeRange, Timing, System, timing_at, range_at, no_range}
 use Rattle.cl_stim.specs.Phase.{phase_of}
 use Rattle.cl_comm.specs.Windows.{least_times, spot_at}
-use Rattle.cl_cycle.specs.Counts.{arrivals_of}
-use Rattle.cl_cycle.specs.Cycles.{is_one_of, in_phase_above, cycle_of}
+use Rattle.cl_cycle.specs.{Counts.arrivals_of, Cycles.{is_one_of, in_phase_above, cycle_of}}
 use Rattle.cl_cycle.proofs.SameCycles.{same_above, same_in_phase, same_cycle}
-use Rattle.cl_lead.specs.Ahead.{least_lead}
-use Rattle.cl_lead.specs.Leads.{surely_released, work_above, ahead_of, before_read, lead_if, lead_with, lead_at}
-use Rattle.cl_lead.specs.LeastTimes.{least_of_each, HaveSameLeastTimes}
+use Rattle.cl_lead.specs.{Ahead.least_lead, Leads.{surely_released, work_above, ahead_of, before_read, lead_if, lead_with, lead_at}, LeastTimes.{least_of_each, HaveSameLeastTimes}}
 
 -- ---- sums of least times
 

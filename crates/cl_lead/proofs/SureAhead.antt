@@ -1,20 +1,12 @@
 -- What the code puts together has the lead of what runs ahead.
 use Rattle.std.proofs.Common.{◌≡◌, ℕ, ◌<◌, inl, inr, Bool, true, false, true≢false, Option, Some, None, unwrap_or, length, refl, sym, ap, ◌∙◌, arith}
-use Rattle.cl_model.specs.declared.model.SystemModel.{SystemModel}
-use Rattle.cl_model.specs.declared.task.AccessKind.{AccessKind}
-use Rattle.cl_model.specs.declared.task.AccessKind.TheVariants.{Explicit, Implicit, Timed}
-use Rattle.cl_model.specs.Kinds.{is_timed}
-use Rattle.cl_model.specs.ByNumber.{task_at, stimulus_of, deadline_of}
-use Rattle.cl_runs.specs.TaskTiming.{Timing, timing_at}
-use Rattle.cl_runs.specs.SystemOf.{system_of}
+use Rattle.cl_model.specs.{declared.{model.SystemModel.SystemModel, task.AccessKind.{AccessKind, TheVariants.{Explicit, Implicit, Timed}}}, Kinds.is_timed, ByNumber.{task_at, stimulus_of, deadline_of}}
+use Rattle.cl_runs.specs.{TaskTiming.{Timing, timing_at}, SystemOf.system_of}
 use Rattle.cl_runs.proofs.ModelSystem.{timing_is}
-use Rattle.cl_stim.specs.declared.phase.Phase.{Phase}
-use Rattle.cl_stim.specs.Phase.{IsPhase, phase_of}
+use Rattle.cl_stim.specs.{declared.phase.Phase.Phase, Phase.{IsPhase, phase_of}}
 use Rattle.cl_comm.specs.Windows.{spot_at}
-use Rattle.cl_cycle.specs.Counts.{arrivals_of, each_moment}
-use Rattle.cl_cycle.specs.Cycles.{is_one_of, in_phase_above, cycle_of}
-use Rattle.cl_lead.specs.Ahead.{Ahead, least_lead, MayLead, IsLead}
-use Rattle.cl_lead.specs.Leads.{work_above, ahead_of, before_read, lead_if, lead_with, lead_at}
+use Rattle.cl_cycle.specs.{Counts.{arrivals_of, each_moment}, Cycles.{is_one_of, in_phase_above, cycle_of}}
+use Rattle.cl_lead.specs.{Ahead.{Ahead, least_lead, MayLead, IsLead}, Leads.{work_above, ahead_of, before_read, lead_if, lead_with, lead_at}}
 use Rattle.cl_lead.proofs.LeastLeads.{least_is_lead, lead_is_least}
 
 abbrev ahead : (arrivals : Phase) (cycle before deadline : ℕ) (work : (from width : ℕ) → ℕ) → Ahead

@@ -3,13 +3,10 @@
 use Rattle.std.proofs.Common.{◌≡◌, ℕ, ◌≤◌, Bool, true, false, ℤ, pos, negsuc, ◌+ℤ◌, ◌-ℤ◌, ◌≤ℤ◌, unsigned_abs, refl, sym, ◌∙◌, subst, arith}
 use Rattle.std.specs.Int.{int_max}
 use Rattle.std.proofs.lemmas.Int.{ints, int_max_is}
-use Rattle.cl_stim.specs.declared.phase.Phase.{Phase}
-use Rattle.cl_stim.specs.Phase.{IsPhase, arrives_at, first_arrival, last_arrival}
-use Rattle.cl_stim.proofs.ArrivalTests.{arrives_from_test, test_from_arrival}
-use Rattle.cl_stim.proofs.PhaseSteps.{first_arrives, first_after, first_before, last_after}
+use Rattle.cl_stim.specs.{declared.phase.Phase.Phase, Phase.{IsPhase, arrives_at, first_arrival, last_arrival}}
+use Rattle.cl_stim.proofs.{ArrivalTests.{arrives_from_test, test_from_arrival}, PhaseSteps.{first_arrives, first_after, first_before, last_after}}
 use Rattle.cl_model.specs.declared.limits.TheConstants.{MOST_TICKS}
-use Rattle.cl_lead.specs.declared.sure.SureWork.{SureWork}
-use Rattle.cl_lead.specs.Inner.Sure.{NoneArrives, IsFirstCounted}
+use Rattle.cl_lead.specs.{declared.sure.SureWork.SureWork, Inner.Sure.{NoneArrives, IsFirstCounted}}
 
 not_true : (b : Bool) → (b ≡ true → ⊥) → b ≡ false
 not_true true never = absurd (never refl)

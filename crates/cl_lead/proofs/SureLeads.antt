@@ -3,8 +3,7 @@ use Rattle.std.proofs.Common.{◌≡◌, ℕ, ◌+◌, ◌<◌, ◌≤◌, ◌�
 use Rattle.std.proofs.lemmas.Bool.{cases_lt, cases_eq}
 use Rattle.cl_stim.specs.Phase.{IsPhase, arrives_at}
 use Rattle.cl_stim.proofs.ArrivalTests.{arrives_from_test, test_from_arrival}
-use Rattle.cl_lead.specs.Ahead.{Ahead, least_lead, MayLead}
-use Rattle.cl_lead.specs.Inner.Sure.{NoneMayStart, IsLeastLeadAfter}
+use Rattle.cl_lead.specs.{Ahead.{Ahead, least_lead, MayLead}, Inner.Sure.{NoneMayStart, IsLeastLeadAfter}}
 use Rattle.cl_lead.proofs.LeastLeads.{lead_is_least}
 
 -- a distance is the deadline, or one at which a runnable may start after some arrival

@@ -8,14 +8,10 @@ use Rattle.std.proofs.lemmas.Bool.{cases_lt, cases_eq}
 use Rattle.std.proofs.lemmas.Bool.Decides.{nat_tests}
 use Rattle.std.proofs.lemmas.List.Elements.{All-head, All-tail}
 use Rattle.std.proofs.lemmas.List.Sums.{sum_by-cons, sum_by-le-sum_by}
-use Rattle.cl_stim.specs.declared.phase.Phase.{Phase}
-use Rattle.cl_stim.specs.Phase.{arrives_at, last_arrival}
+use Rattle.cl_stim.specs.{declared.phase.Phase.Phase, Phase.{arrives_at, last_arrival}}
 use Rattle.cl_cycle.specs.Counts.{arrivals_from}
 use Rattle.cl_cycle.proofs.CountedTicks.{one_if, none_in_none, earlier, wider_has}
-use Rattle.cl_lead.specs.declared.sure.SureTask.{SureTask}
-use Rattle.cl_lead.specs.declared.sure.SureWork.{SureWork}
-use Rattle.cl_lead.specs.Ahead.{ticks_taken, MayStartAt}
-use Rattle.cl_lead.specs.Inner.Sure.{sure_time, ahead_in, IsQuiet, IsFirstCounted, NoneMayStart, IsRaised}
+use Rattle.cl_lead.specs.{declared.sure.{SureTask.SureTask, SureWork.SureWork}, Ahead.{ticks_taken, MayStartAt}, Inner.Sure.{sure_time, ahead_in, IsQuiet, IsFirstCounted, IsRaised}}
 
 -- ---- one task
 
@@ -181,18 +177,6 @@ module _ (work : SureWork) (arrival : ℕ) where
       no_more = omega arith;
       none = λ other from_lead below may. none_sooner from after by other from_lead (omega (arith, more, below)) may;
       may = λ same. absurd (omega (arith, less, same));
-    }
-
-    -- where all is checked, it is raised
-    pub raised_there : (raised until : ℕ) → lead ≤ raised → raised ≤ most → NoneMayStart (ahead_in work) arrival lead raised
-        → IsChecked lead first raised until → until ≤ first → IsRaised (ahead_in work) arrival lead most raised
-    raised_there raised until no_less no_more none checked done = record {
-      no_less = no_less;
-      no_more = no_more;
-      none = none;
-      may = λ same from width after ends.
-          let counted : first ≤ from = is_first.first from after in
-          omega (arith, same, ends, checked from width counted (omega (arith, counted, done)) ends);
     }
 
 -- what is needed of the job itself

@@ -4,24 +4,13 @@ use Rattle.std.specs.Prelude.{sum_by, All}
 use Rattle.std.proofs.lemmas.List.Elements.{All-get_or, All-weaker}
 use Rattle.std.proofs.lemmas.List.Folds.{fold-map}
 use Rattle.std.proofs.lemmas.List.Sums.{sum_by-le, sum_by_more, sum_by_push}
-use Rattle.cl_model.specs.declared.limits.TheConstants.{MOST_TICKS, MOST_RUNNABLES}
-use Rattle.cl_model.specs.declared.model.SystemModel.{SystemModel}
-use Rattle.cl_model.specs.declared.stimulus.StimulusKind.{StimulusKind}
-use Rattle.cl_model.specs.declared.stimulus.StimulusKind.TheVariants.{Periodic}
-use Rattle.cl_model.specs.declared.task.RunnableDef.{RunnableDef}
-use Rattle.cl_model.specs.ByNumber.{no_task, task_at, core_of, stimulus_of, tasks_of_core}
-use Rattle.cl_model.specs.Ranges.{IsRunnableInRange, IsTaskInRange as IsTaskDefInRange, IsKindInRange}
-use Rattle.cl_model.specs.Timing.{IsKindOrdered}
-use Rattle.cl_model.specs.Validity.{IsValid}
-use Rattle.cl_runs.specs.TaskTiming.{TimeRange, Timing, timing_at}
-use Rattle.cl_runs.specs.SystemOf.{range_of, timing_of, system_of}
-use Rattle.cl_runs.specs.Priorities.{is_above}
+use Rattle.cl_model.specs.{declared.{limits.TheConstants.{MOST_TICKS, MOST_RUNNABLES}, model.SystemModel.SystemModel, stimulus.StimulusKind.{StimulusKind, TheVariants.Periodic}, task.RunnableDef.RunnableDef}, ByNumber.{no_task, task_at, core_of, stimulus_of, tasks_of_core}}
+use Rattle.cl_model.specs.{Ranges.{IsRunnableInRange, IsTaskInRange as IsTaskDefInRange, IsKindInRange}, Timing.IsKindOrdered, Validity.IsValid}
+use Rattle.cl_runs.specs.{TaskTiming.{TimeRange, Timing, timing_at}, SystemOf.{range_of, timing_of, system_of}, Priorities.is_above}
 use Rattle.cl_runs.proofs.ModelSystem.{timing_is, count_is}
 use Rattle.cl_comm.specs.Windows.{least_times}
 use Rattle.cl_cycle.specs.Cycles.{is_one_of}
-use Rattle.cl_lead.specs.declared.sure.SureTask.{SureTask}
-use Rattle.cl_lead.specs.Leads.{surely_released, surely_taken, work_above}
-use Rattle.cl_lead.specs.Inner.Sure.{sure_time, time_of_other, is_sure, counted_time, IsSureTaskInRange}
+use Rattle.cl_lead.specs.{declared.sure.SureTask.SureTask, Leads.{surely_released, surely_taken, work_above}, Inner.Sure.{sure_time, time_of_other, is_sure, counted_time, IsSureTaskInRange}}
 use Rattle.cl_lead.proofs.LeadTotals.{total, total_of_range}
 
 -- ---- least times

@@ -2,8 +2,7 @@
 -- least. Times are in ticks.
 use Rattle.std.specs.Prelude.{◌≡◌, ℕ, suc, pos, ◌-ℤ◌, ◌+ℤ◌, ◌≤ℤ◌, ◌+◌, ◌-◌, ◌<◌, ◌≤◌, ◌⊎◌, Bool, cond, nat_le, min, filter, find, unwrap_or, unsigned_abs}
 use Rattle.std.specs.List.{list_all, list_any, range_with_len}
-use Rattle.cl_stim.specs.declared.phase.Phase.{Phase}
-use Rattle.cl_stim.specs.Phase.{IsArrivalOf, arrives_at, last_arrival}
+use Rattle.cl_stim.specs.{declared.phase.Phase.Phase, Phase.{IsArrivalOf, arrives_at, last_arrival}}
 
 -- what runs ahead of a runnable: when its jobs arrive, after how many ticks all comes round, the
 -- least times before it in its job, its deadline, and for how many ticks those above run at least

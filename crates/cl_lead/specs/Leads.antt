@@ -1,17 +1,11 @@
 -- The leads of the runnables of tasks. Times are in ticks.
 use Rattle.std.specs.Prelude.{◌≡◌, ℕ, suc, pos, ◌-◌, ◌*◌, ◌<◌, ◌≤◌, Bool, true, false, sum_by, Option, Some, None}
 use Rattle.std.specs.Int.{◌∣◌}
-use Rattle.cl_model.specs.declared.stimulus.StimulusKind.{StimulusKind}
-use Rattle.cl_model.specs.declared.stimulus.StimulusKind.TheVariants.{Periodic, Sporadic, Burst}
-use Rattle.cl_model.specs.declared.task.AccessKind.{AccessKind}
-use Rattle.cl_model.specs.declared.task.AccessKind.TheVariants.{Explicit, Implicit, Timed}
-use Rattle.cl_runs.specs.TaskTiming.{System, timing_at}
-use Rattle.cl_runs.specs.Priorities.{tasks_above}
-use Rattle.cl_stim.specs.declared.phase.Phase.{Phase}
-use Rattle.cl_stim.specs.Phase.{phase_of}
+use Rattle.cl_model.specs.declared.{stimulus.StimulusKind.{StimulusKind, TheVariants.{Periodic, Sporadic, Burst}}, task.AccessKind.{AccessKind, TheVariants.{Explicit, Implicit, Timed}}}
+use Rattle.cl_runs.specs.{TaskTiming.{System, timing_at}, Priorities.tasks_above}
+use Rattle.cl_stim.specs.{declared.phase.Phase.Phase, Phase.phase_of}
 use Rattle.cl_comm.specs.Windows.{least_times, spot_at}
-use Rattle.cl_cycle.specs.Counts.{arrivals_from, arrivals_of}
-use Rattle.cl_cycle.specs.Cycles.{is_one_of, in_phase_above, cycle_of}
+use Rattle.cl_cycle.specs.{Counts.{arrivals_from, arrivals_of}, Cycles.{is_one_of, in_phase_above, cycle_of}}
 use Rattle.cl_lead.specs.Ahead.{Ahead, least_lead}
 
 -- one arrival each period

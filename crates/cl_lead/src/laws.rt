@@ -1,18 +1,10 @@
 //! What leads mean: in every legal run of a sound system no runnable reads sooner.
 ghost use Rattle.std.specs.Prelude.{◌≡◌, ℕ, ◌+◌, ◌<◌, ◌≤◌, Bool, length};
-ghost use Rattle.cl_model.specs.declared.model.SystemModel.{SystemModel};
-ghost use Rattle.cl_model.specs.Validity.{IsValid};
-ghost use Rattle.cl_runs.specs.SystemOf.{system_of};
-ghost use Rattle.cl_runs.specs.TaskTiming.{System, IsSound, timing_at};
-ghost use Rattle.cl_runs.specs.Table.{job_at};
-ghost use Rattle.cl_runs.specs.Run.{Run, jobs_of};
-ghost use Rattle.cl_runs.specs.Legal.{IsLegal};
-ghost use Rattle.cl_runs.specs.Moments.{Reads};
+ghost use Rattle.cl_model.specs.{declared.model.SystemModel.SystemModel, Validity.IsValid};
+ghost use Rattle.cl_runs.specs.{SystemOf.system_of, TaskTiming.{System, IsSound, timing_at}, Table.job_at, Run.{Run, jobs_of}, Legal.IsLegal, Moments.Reads};
 ghost use Rattle.cl_comm.specs.Windows.{spot_at};
 ghost use Rattle.cl_stim.specs.Phase.{IsPhase};
-ghost use Rattle.cl_lead.specs.Ahead.{Ahead, least_lead, IsLead};
-ghost use Rattle.cl_lead.specs.Leads.{before_read, lead_with, lead_at, IsCommonCycle};
-ghost use Rattle.cl_lead.specs.LeastTimes.{HaveSameLeastTimes};
+ghost use Rattle.cl_lead.specs.{Ahead.{Ahead, least_lead, IsLead}, Leads.{before_read, lead_with, lead_at, IsCommonCycle}, LeastTimes.HaveSameLeastTimes};
 
 /// A runnable reads no earlier than its lead after the arrival of its job, whichever tasks are in
 /// phase, where all of these come round with the cycle.

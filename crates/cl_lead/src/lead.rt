@@ -1,17 +1,11 @@
 //! The leads of the runnables of a valid model. Times are in ticks.
 ghost use Rattle.std.specs.Prelude.{◌≡◌, ℕ, ◌*◌, ◌^◌, ◌<◌, ◌≤◌, length, Some, IfSome, sum_by, All};
-ghost use Rattle.cl_model.specs.declared.limits.TheConstants.{MOST_TICKS, MOST_RUNNABLES};
-ghost use Rattle.cl_model.specs.declared.task.RunnableDef.{RunnableDef};
-ghost use Rattle.cl_model.specs.ByNumber.{task_at, core_of, stimulus_of, tasks_of_core};
-ghost use Rattle.cl_model.specs.Validity.{IsValid};
-ghost use Rattle.cl_runs.specs.SystemOf.{system_of};
-ghost use Rattle.cl_runs.specs.TaskTiming.{timing_at};
+ghost use Rattle.cl_model.specs.{declared.{limits.TheConstants.{MOST_TICKS, MOST_RUNNABLES}, task.RunnableDef.RunnableDef}, ByNumber.{task_at, core_of, stimulus_of, tasks_of_core}, Validity.IsValid};
+ghost use Rattle.cl_runs.specs.{SystemOf.system_of, TaskTiming.timing_at};
 ghost use Rattle.cl_stim.specs.Phase.{IsPhaseInRange, phase_of};
 ghost use Rattle.cl_comm.specs.Windows.{least_times};
 ghost use Rattle.cl_cycle.specs.Cycles.{is_one_of, in_phase_above, cycle_of};
-ghost use Rattle.cl_lead.specs.Ahead.{least_lead};
-ghost use Rattle.cl_lead.specs.Leads.{before_read, ahead_of, lead_at};
-ghost use Rattle.cl_lead.specs.Inner.Sure.{sure_time, time_if, time_of_other, is_sure, counted_time, ahead_in, IsSureTaskInRange, IsWorkInRange};
+ghost use Rattle.cl_lead.specs.{Ahead.least_lead, Leads.{before_read, ahead_of, lead_at}, Inner.Sure.{sure_time, time_if, time_of_other, is_sure, counted_time, ahead_in, IsSureTaskInRange, IsWorkInRange}};
 
 use crate::sure::{SureTask, SureWork};
 use arrayvec::ArrayVec;

@@ -2,8 +2,7 @@
 ghost use Rattle.std.specs.Prelude.{◌≡◌, ℕ, ◌+◌, ◌*◌, ◌^◌, ◌<◌, ◌≤◌, pos, true};
 ghost use Rattle.cl_model.specs.declared.limits.TheConstants.{MOST_TICKS, MOST_RUNNABLES};
 ghost use Rattle.cl_stim.specs.Phase.{IsPhaseInRange, arrives_at};
-ghost use Rattle.cl_lead.specs.Ahead.{least_lead};
-ghost use Rattle.cl_lead.specs.Inner.Sure.{sure_time, ahead_in, LATEST_COUNTED, IsSureTaskInRange, IsWorkInRange, NoneArrives, IsQuiet, IsFirstCounted, IsRaised, IsLeastLeadAfter};
+ghost use Rattle.cl_lead.specs.{Ahead.least_lead, Inner.Sure.{sure_time, ahead_in, LATEST_COUNTED, IsSureTaskInRange, IsWorkInRange, NoneArrives, IsQuiet, IsFirstCounted, IsRaised, IsLeastLeadAfter}};
 
 use arrayvec::ArrayVec;
 use cl_cycle::arrivals_from;

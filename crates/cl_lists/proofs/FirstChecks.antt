@@ -3,25 +3,12 @@ use Rattle.std.proofs.Common.{◌≡◌, ◌||◌, ℕ, Bool, true, false, List,
 use Rattle.std.specs.Prelude.{nat_lt, Option, Some, None, Err}
 use Rattle.std.specs.List.{flat_map}
 use Rattle.std.proofs.lemmas.List.Elements.{All-nil, All-cons, All-head, All-append}
-use Rattle.cl_model.specs.declared.limits.TheConstants.{MOST_TASKS, MOST_CHAINS, MOST_REQUIREMENTS}
-use Rattle.cl_model.specs.declared.model.SystemModel.{SystemModel}
+use Rattle.cl_model.specs.{declared.{limits.TheConstants.{MOST_TASKS, MOST_CHAINS, MOST_REQUIREMENTS}, model.SystemModel.SystemModel, place.Place.Place, refusal.{Code.{Code, TheVariants.{M10, E2, E3}}, Refusal.Refusal}, stimulus.StimulusKind.StimulusKind}, Kinds.is_periodic}
+use Rattle.cl_model.specs.{Named.{has_name, task_names, chain_names, requirement_names, kind_named}, Place.{top, section_place}, Refusals.{unless, answer}, Validity.refusals_of}
 use Rattle.cl_model.specs.declared.place.Part.TheVariants as part
-use Rattle.cl_model.specs.declared.place.Place.{Place}
-use Rattle.cl_model.specs.declared.refusal.Code.{Code}
-use Rattle.cl_model.specs.declared.refusal.Code.TheVariants.{M10, E2, E3}
-use Rattle.cl_model.specs.declared.refusal.Refusal.{Refusal}
-use Rattle.cl_model.specs.declared.stimulus.StimulusKind.{StimulusKind}
-use Rattle.cl_model.specs.Kinds.{is_periodic}
-use Rattle.cl_model.specs.Named.{has_name, task_names, chain_names, requirement_names, kind_named}
-use Rattle.cl_model.specs.Place.{top, section_place}
-use Rattle.cl_model.specs.Refusals.{unless, answer}
-use Rattle.cl_model.specs.Validity.{refusals_of}
-use Rattle.cl_edit.specs.declared.edit.NamedPriority.{NamedPriority}
-use Rattle.cl_edit.specs.declared.edit.Edit.{Edit}
-use Rattle.cl_edit.specs.declared.edit.Edit.TheVariants.{Range, Whole, Period, Offset, Jitter, Distances, Burst, Deadline, Swap, Priorities, Move, Kind, AddTask, DropTask, AddChain, DropChain, Requirement, DropRequirement, Report, Tighten, Verify}
+use Rattle.cl_edit.specs.declared.edit.{NamedPriority.NamedPriority, Edit.{Edit, TheVariants.{Range, Whole, Period, Offset, Jitter, Distances, Burst, Deadline, Swap, Priorities, Move, Kind, AddTask, DropTask, AddChain, DropChain, Requirement, DropRequirement, Report, Tighten, Verify}}}
 use Rattle.cl_edit.specs.Edited.{found, all_names, kind_found, has_offset, is_sporadic, is_burst, edit_checks, with_edit, edited}
-use Rattle.cl_lists.specs.RefusedEdits.{model_unless, model_made}
-use Rattle.cl_lists.specs.Refusers.{is_of_edit}
+use Rattle.cl_lists.specs.{RefusedEdits.{model_unless, model_made}, Refusers.is_of_edit}
 
 -- all refusals are of an edit itself
 abbrev AreOfEdit : List Refusal → Type 0

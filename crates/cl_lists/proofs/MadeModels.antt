@@ -1,8 +1,6 @@
 -- The model that an edit makes, by what its first checks answer.
 use Rattle.std.proofs.Common.{◌≡◌, ◌∙◌, List, [], ◌∷◌, Some, None, refl, sym, ap}
-use Rattle.cl_model.specs.declared.model.SystemModel.{SystemModel}
-use Rattle.cl_model.specs.declared.refusal.Refusal.{Refusal}
-use Rattle.cl_model.specs.Refusals.{first}
+use Rattle.cl_model.specs.{declared.{model.SystemModel.SystemModel, refusal.Refusal.Refusal}, Refusals.first}
 use Rattle.cl_lists.specs.RefusedEdits.{model_unless}
 
 pub made_where_none : (checks : List Refusal) (made model : SystemModel) → checks ≡ [] → model ≡ made → model_unless checks made ≡ Some model

@@ -4,10 +4,7 @@ use Rattle.std.specs.List.{find, slice_get, slice_split}
 use Rattle.std.specs.Option.{option_map_or}
 use Rattle.std.specs.Str.{bytes_eq}
 use Rattle.cl_text.specs.Line.{line}
-use Rattle.cl_edit.specs.declared.limits.TheConstants.{MOST_EDITS}
-use Rattle.cl_edit.specs.declared.version.Version.{Version}
-use Rattle.cl_edit.specs.declared.version.Version.TheVariants.{One, Two}
-use Rattle.cl_edit.specs.Said.{lines, without_return, is_blank, has_bytes, words_of, says}
+use Rattle.cl_edit.specs.{declared.{limits.TheConstants.MOST_EDITS, version.Version.{Version, TheVariants.{One, Two}}}, Said.{lines, without_return, is_blank, has_bytes, words_of, says}}
 use Rattle.cl_advice.specs.Shown.{quoted}
 use Rattle.cl_lists.specs.Shapes.{shape_of, words_text}
 

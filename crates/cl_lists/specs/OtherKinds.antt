@@ -1,8 +1,7 @@
 -- What is said of an edit of a stimulus that is of another kind.
 use Rattle.std.specs.Prelude.{ℕ, List, [], ◌++◌, codes}
 use Rattle.cl_text.specs.Line.{line}
-use Rattle.cl_edit.specs.declared.edit.Edit.{Edit}
-use Rattle.cl_edit.specs.declared.edit.Edit.TheVariants.{Period, Offset, Jitter, Distances, Burst}
+use Rattle.cl_edit.specs.declared.edit.Edit.{Edit, TheVariants.{Period, Offset, Jitter, Distances, Burst}}
 
 -- which kind is wanted, and of which stimulus
 unfoldable pub kind_lines : (kind stimulus : List ℕ) → List ℕ

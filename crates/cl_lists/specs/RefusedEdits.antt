@@ -1,16 +1,10 @@
 -- What is said of an edit that is refused: the line that it stands in, and what to mend.
 use Rattle.std.specs.Prelude.{ℕ, List, [], ◌∷◌, ◌++◌, Option, Some, None}
-use Rattle.cl_model.specs.declared.model.SystemModel.{SystemModel}
-use Rattle.cl_model.specs.declared.refusal.Code.{Code}
+use Rattle.cl_model.specs.declared.{model.SystemModel.SystemModel, refusal.{Code.Code, Refusal.Refusal}}
 use Rattle.cl_model.specs.declared.refusal.Code.TheVariants as code
-use Rattle.cl_model.specs.declared.refusal.Refusal.{Refusal}
-use Rattle.cl_edit.specs.declared.edit.Edit.{Edit}
-use Rattle.cl_edit.specs.declared.version.Version.TheVariants.{Two}
-use Rattle.cl_edit.specs.Edited.{edit_checks, with_edit}
+use Rattle.cl_edit.specs.{declared.{edit.Edit.Edit, version.Version.TheVariants.Two}, Edited.{edit_checks, with_edit}}
 use Rattle.cl_advice.specs.OfEdits.{edit_advice_text}
-use Rattle.cl_lists.specs.BadLines.{line_found}
-use Rattle.cl_lists.specs.OtherKinds.{other_kind_text}
-use Rattle.cl_lists.specs.Unknown.{unknown_text}
+use Rattle.cl_lists.specs.{BadLines.line_found, OtherKinds.other_kind_text, Unknown.unknown_text}
 
 -- a model, unless one of these checks refuses it
 abbrev pub model_unless : (checks : List Refusal) → SystemModel → Option SystemModel

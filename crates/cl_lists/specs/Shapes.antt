@@ -2,8 +2,7 @@
 use Rattle.std.specs.Prelude.{ℕ, if◌then◌else◌, List, Option, Some, None, codes}
 use Rattle.std.specs.Option.{option_or}
 use Rattle.std.specs.Str.{bytes_eq}
-use Rattle.cl_edit.specs.declared.version.Version.{Version}
-use Rattle.cl_edit.specs.declared.version.Version.TheVariants.{One, Two}
+use Rattle.cl_edit.specs.declared.version.Version.{Version, TheVariants.{One, Two}}
 
 -- of both versions
 abbrev pub early_shape : List ℕ → Option (List ℕ)

@@ -3,11 +3,8 @@ use Rattle.std.specs.Prelude.{ℕ, not, List, [], ◌∷◌, ◌++◌, map, code
 use Rattle.std.specs.List.{find}
 use Rattle.std.specs.Option.{option_map_or}
 use Rattle.cl_text.specs.Line.{line}
-use Rattle.cl_model.specs.declared.model.SystemModel.{SystemModel}
-use Rattle.cl_model.specs.Named.{has_name, all_runnables, runnable_names, stimulus_names, task_names, chain_names, requirement_names}
-use Rattle.cl_edit.specs.declared.edit.NamedPriority.{NamedPriority}
-use Rattle.cl_edit.specs.declared.edit.Edit.{Edit}
-use Rattle.cl_edit.specs.declared.edit.Edit.TheVariants.{Range, Whole, Period, Offset, Jitter, Distances, Burst, Deadline, Swap, Priorities, Move, Kind, DropTask, DropChain, DropRequirement}
+use Rattle.cl_model.specs.{declared.model.SystemModel.SystemModel, Named.{has_name, all_runnables, runnable_names, stimulus_names, task_names, chain_names, requirement_names}}
+use Rattle.cl_edit.specs.declared.edit.{NamedPriority.NamedPriority, Edit.{Edit, TheVariants.{Range, Whole, Period, Offset, Jitter, Distances, Burst, Deadline, Swap, Priorities, Move, Kind, DropTask, DropChain, DropRequirement}}}
 use Rattle.cl_advice.specs.Known.{known_names}
 
 -- a name of some kind that isn't among those that there are, and these

@@ -1,11 +1,8 @@
 //! What holds of what is said of lists.
 ghost use Rattle.std.specs.Prelude.{◌≡◌, false, Some, Err};
-ghost use Rattle.cl_model.specs.declared.model.SystemModel.{SystemModel};
-ghost use Rattle.cl_model.specs.declared.refusal.Refusal.{Refusal};
-ghost use Rattle.cl_edit.specs.declared.edit.Edit.{Edit};
-ghost use Rattle.cl_edit.specs.Edited.{with_edit, edited};
-ghost use Rattle.cl_lists.specs.RefusedEdits.{model_made};
-ghost use Rattle.cl_lists.specs.Refusers.{is_of_edit};
+ghost use Rattle.cl_model.specs.declared.{model.SystemModel.SystemModel, refusal.Refusal.Refusal};
+ghost use Rattle.cl_edit.specs.{declared.edit.Edit.Edit, Edited.{with_edit, edited}};
+ghost use Rattle.cl_lists.specs.{RefusedEdits.model_made, Refusers.is_of_edit};
 
 /// Where an edit is refused with another code than E2, E3 and M10, what is said is said of the
 /// model that the edit makes.

@@ -4,8 +4,7 @@ ghost use Rattle.std.specs.List.{find};
 ghost use Rattle.std.specs.Option.{option_copied};
 ghost use Rattle.cl_model.specs.Named.{has_name, all_runnables, runnable_names};
 ghost use Rattle.cl_edit.specs.declared.edit.NamedPriority.{NamedPriority};
-ghost use Rattle.cl_lists.specs.declared.unknown.RunnableName.{RunnableName};
-ghost use Rattle.cl_lists.specs.Unknown.{unknown_lines, first_unknown, unknown_text};
+ghost use Rattle.cl_lists.specs.{declared.unknown.RunnableName.RunnableName, Unknown.{unknown_lines, first_unknown, unknown_text}};
 
 use cl_advice::put_known_names;
 use cl_edit::{Edit, NamedPriority};

@@ -2,9 +2,7 @@
 use Rattle.std.proofs.Common.{◌≡◌, ℕ, ◌+◌, ◌<◌, List, [], ◌∷◌, ◌++◌, length, sym, subst, arith, below_more}
 use Rattle.std.proofs.lemmas.List.{length_push, get_or_push, get_or_append_left}
 use Rattle.cl_model.specs.declared.model.SystemModel.{SystemModel}
-use Rattle.cl_margin.specs.declared.answer.Margin.{Margin}
-use Rattle.cl_margin.specs.declared.whose.Whose.TheVariants.{OneTask}
-use Rattle.cl_margin.specs.Margins.{no_margin, margin_at, IsMargin}
+use Rattle.cl_margin.specs.{declared.{answer.Margin.Margin, whose.Whose.TheVariants.OneTask}, Margins.{no_margin, margin_at, IsMargin}}
 
 -- those of the tasks below a number
 pub record AreMarginsBelow (model : SystemModel) (count : ℕ) (margins : List Margin) : Type 0 where

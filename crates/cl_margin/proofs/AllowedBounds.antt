@@ -2,18 +2,12 @@
 use Rattle.std.proofs.Common.{◌≡◌, ℕ, ◌+◌, ◌<◌, ◌≤◌, inl, inr, Bool, true, false, ◌&&◌, nat_le, List, length, set, sym, ap, ◌∙◌, subst, arith}
 use Rattle.std.proofs.lemmas.Bool.{true≢false, cases_lt, cases_eq, leb-true, le-leb}
 use Rattle.std.proofs.lemmas.List.{length-set, get_or-set_same, get_or-set_other}
-use Rattle.cl_model.specs.declared.chain.LengthKind.TheVariants.{Reaction, Age, Reduced}
-use Rattle.cl_model.specs.declared.chain.RequirementDef.{RequirementDef}
-use Rattle.cl_model.specs.declared.chain.RequirementKind.{RequirementKind}
-use Rattle.cl_model.specs.declared.chain.RequirementKind.TheVariants.{Length, Delay}
-use Rattle.cl_model.specs.declared.model.SystemModel.{SystemModel}
+use Rattle.cl_model.specs.declared.{chain.{LengthKind.TheVariants.{Reaction, Age, Reduced}, RequirementDef.RequirementDef, RequirementKind.{RequirementKind, TheVariants.{Length, Delay}}}, model.SystemModel.SystemModel}
 use Rattle.cl_model.proofs.ListFacts.{both_pass, both_true}
 use Rattle.cl_runs.specs.Requirements.{requirement_at, required_chain}
 use Rattle.cl_bound.specs.Bounds.{Lengths}
-use Rattle.cl_analyse.specs.declared.findings.Verdict.{Verdict}
-use Rattle.cl_analyse.specs.Verdicts.{limited_bound, verdict_at, is_met}
-use Rattle.cl_margin.specs.declared.allowed.Allowed.{Allowed}
-use Rattle.cl_margin.specs.Inner.Allowing.{any_allowed, with_most, allows, allowed_at, AreAllowed}
+use Rattle.cl_analyse.specs.{declared.findings.Verdict.Verdict, Verdicts.{limited_bound, verdict_at, is_met}}
+use Rattle.cl_margin.specs.{declared.allowed.Allowed.Allowed, Inner.Allowing.{any_allowed, with_most, allows, allowed_at, AreAllowed}}
 
 -- ---- bounds that are allowed
 
@@ -82,15 +76,6 @@ module _ (model : SystemModel) (verdicts : List Verdict) where
     pub keeps : (chain : ℕ) (bounds : Lengths) → chain < length model.chains → allows (allowed_at allowed chain) bounds ≡ true → KeepsFirst count chain bounds
     pub allows : (chain : ℕ) (bounds : Lengths) → chain < length model.chains → allows any_allowed bounds ≡ true
         → KeepsFirst count chain bounds → allows (allowed_at allowed chain) bounds ≡ true
-
-  -- at first all is
-  pub any_by_none : (allowed : List Allowed) → length allowed ≡ length model.chains
-      → ((chain : ℕ) → chain < length allowed → allowed_at allowed chain ≡ any_allowed) → AreAllowedBy 0 allowed
-  any_by_none allowed as_many any = record {
-    one_a_chain = as_many;
-    keeps = λ chain bounds h passes i lt. absurd (omega (arith, lt));
-    allows = λ chain bounds h passes keeps. ap (λ (a : Allowed). allows a bounds) (any chain (omega (arith, h, as_many))) ∙ passes;
-  }
 
   module _ (count : ℕ) (allowed : List Allowed) (by : AreAllowedBy count allowed) where
     abbrev next : RequirementDef

@@ -2,34 +2,14 @@
 use Rattle.std.proofs.Common.{◌≡◌, ℕ, ◌<◌, ◌≤◌, true, false, List, length, refl, sym, ap, ◌∙◌, subst, arith}
 use Rattle.std.specs.Prelude.{nat_le, ◌&&◌}
 use Rattle.std.proofs.lemmas.Bool.{true≢false, false≢true, and_from, le-leb}
-use Rattle.cl_model.specs.declared.chain.LengthKind.TheVariants.{Reaction, Age, Reduced}
-use Rattle.cl_model.specs.declared.chain.RequirementKind.{RequirementKind}
-use Rattle.cl_model.specs.declared.chain.RequirementKind.TheVariants.{Length, Delay}
-use Rattle.cl_model.specs.declared.model.SystemModel.{SystemModel}
-use Rattle.cl_model.specs.Ranges.{IsInRange}
-use Rattle.cl_model.specs.Validity.{IsValid}
+use Rattle.cl_model.specs.{declared.{chain.{LengthKind.TheVariants.{Reaction, Age, Reduced}, RequirementKind.{RequirementKind, TheVariants.{Length, Delay}}}, model.SystemModel.SystemModel}, Ranges.IsInRange, Validity.IsValid}
 use Rattle.cl_runs.specs.Requirements.{no_requirement, requirement_at}
 use Rattle.cl_bound.specs.Bounds.{Lengths}
-use Rattle.cl_analyse.specs.declared.findings.ChainAnswer.{ChainAnswer}
-use Rattle.cl_analyse.specs.declared.findings.ChainAnswer.TheVariants.{Bounds, Late}
-use Rattle.cl_analyse.specs.ChainAnswers.{chain_answer_at}
-use Rattle.cl_analyse.specs.Verdicts.{limited_bound}
-use Rattle.cl_tight.specs.declared.findings.TightFindings.{TightFindings}
-use Rattle.cl_tight.specs.TightFindings.{tight_chain_answers_of, tight_findings_of}
-use Rattle.cl_margin.specs.declared.allowed.Allowed.{Allowed}
-use Rattle.cl_margin.specs.declared.searching.Item.{Item}
-use Rattle.cl_margin.specs.declared.searching.Item.TheVariants.{Task, Chain}
-use Rattle.cl_margin.specs.declared.trial.Trial.{Trial}
-use Rattle.cl_margin.specs.declared.whose.Whose.{Whose}
-use Rattle.cl_margin.specs.Grown.{grown}
-use Rattle.cl_margin.specs.Margins.{KeepsMet}
-use Rattle.cl_margin.specs.Inner.Allowing.{any_allowed, allows, allows_answer, allowed_at, KeepsRequired, AreAllowed, most_bounds}
-use Rattle.cl_margin.specs.Inner.Searches.{holds, FitsAnswer, FitsItem, IsItemOf, IsMetItem, KeepsChain, KeepsItem}
-use Rattle.cl_margin.specs.Inner.Trials.{IsTrialOf, IsStanding}
-use Rattle.cl_margin.proofs.GrownSystem.{chains_grown}
-use Rattle.cl_margin.proofs.GrownValid.{count_grown, grown_same}
-use Rattle.cl_margin.proofs.MetByBounds.{task_met_is}
-use Rattle.cl_margin.proofs.StaysMet.{grown_met_by, grown_met_where, kept_below, requirement_met_below}
+use Rattle.cl_analyse.specs.{declared.findings.ChainAnswer.{ChainAnswer, TheVariants.{Bounds, Late}}, ChainAnswers.chain_answer_at, Verdicts.limited_bound}
+use Rattle.cl_tight.specs.{declared.findings.TightFindings.TightFindings, TightFindings.{tight_chain_answers_of, tight_findings_of}}
+use Rattle.cl_margin.specs.{declared.{allowed.Allowed.Allowed, searching.Item.{Item, TheVariants.{Task, Chain}}, trial.Trial.Trial, whose.Whose.Whose}, Grown.grown, Margins.KeepsMet, Inner.Allowing.{any_allowed, allows, allows_answer, allowed_at, KeepsRequired, AreAllowed, most_bounds}}
+use Rattle.cl_margin.specs.Inner.{Searches.{holds, FitsAnswer, FitsItem, IsItemOf, IsMetItem, KeepsChain, KeepsItem}, Trials.{IsTrialOf, IsStanding}}
+use Rattle.cl_margin.proofs.{GrownSystem.chains_grown, GrownValid.{count_grown, grown_same}, MetByBounds.task_met_is, StaysMet.{grown_met_by, grown_met_where, kept_below, requirement_met_below}}
 
 -- ---- trials
 

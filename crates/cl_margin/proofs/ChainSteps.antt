@@ -3,23 +3,13 @@ use Rattle.std.proofs.Common.{◌≡◌, ℕ, ◌+◌, ◌<◌, ◌≤◌, true,
 use Rattle.std.specs.Prelude.{All}
 use Rattle.std.proofs.lemmas.List.{get_or-map, map_more, take_all}
 use Rattle.std.proofs.lemmas.List.Elements.{All-append, All-cons, All-nil}
-use Rattle.cl_model.specs.declared.group.Group.{Group}
-use Rattle.cl_model.specs.declared.model.SystemModel.{SystemModel}
-use Rattle.cl_model.specs.ByNumber.{no_chain, chain_at}
-use Rattle.cl_model.specs.Groups.{no_group, groups_at}
+use Rattle.cl_model.specs.{declared.{group.Group.Group, model.SystemModel.SystemModel}, ByNumber.{no_chain, chain_at}, Groups.{no_group, groups_at}}
 use Rattle.cl_runs.specs.SystemOf.{system_of}
-use Rattle.cl_bound.specs.declared.answer.TaskAnswer.{TaskAnswer}
-use Rattle.cl_bound.specs.declared.group_timing.GroupTiming.{GroupTiming}
-use Rattle.cl_bound.specs.Answers.{answer_at, is_late, NoneIsLate}
-use Rattle.cl_bound.specs.Bounds.{Lengths}
-use Rattle.cl_bound.specs.Hops.{IsNear}
+use Rattle.cl_bound.specs.{declared.{answer.TaskAnswer.TaskAnswer, group_timing.GroupTiming.GroupTiming}, Answers.{answer_at, is_late, NoneIsLate}, Bounds.Lengths, Hops.IsNear}
 use Rattle.cl_phase.specs.TightBounds.{tight_bounds}
-use Rattle.cl_analyse.specs.declared.findings.ChainAnswer.TheVariants.{Bounds, Late}
-use Rattle.cl_analyse.specs.ChainAnswers.{chain_answer_at}
+use Rattle.cl_analyse.specs.{declared.findings.ChainAnswer.TheVariants.{Bounds, Late}, ChainAnswers.chain_answer_at}
 use Rattle.cl_analyse.proofs.FirstLate.{none_late, late_found, timely_more, timely_all}
-use Rattle.cl_tight.specs.TightAnswers.{tight_answers_of}
-use Rattle.cl_tight.specs.TightFindings.{tight_chain_answer_of, tight_chain_answers_of}
-use Rattle.cl_tight.specs.TightTimings.{tight_timing}
+use Rattle.cl_tight.specs.{TightAnswers.tight_answers_of, TightFindings.{tight_chain_answer_of, tight_chain_answers_of}, TightTimings.tight_timing}
 use Rattle.cl_tight.proofs.TightLists.{late_answer, bounds_answer}
 use Rattle.cl_margin.specs.Inner.Trials.{IsTimingAt}
 

@@ -3,33 +3,17 @@ use Rattle.std.proofs.Common.{◌≡◌, ℕ, ◌+◌, ◌<◌, ◌≤◌, inl, 
 use Rattle.std.specs.Prelude.{◌==◌, slice_get}
 use Rattle.std.proofs.lemmas.Bool.{true≢false, cases_lt, cases_eq, eqb-true, eq-eqb, ne_eqb, lt-ltb, le-ltb, or_parts}
 use Rattle.std.proofs.lemmas.List.{length-set, get_or_past, get_or-set_same, get_or-set_other}
-use Rattle.cl_model.specs.declared.model.SystemModel.{SystemModel}
-use Rattle.cl_model.specs.Validity.{IsValid}
-use Rattle.cl_runs.specs.SystemOf.{system_of}
-use Rattle.cl_runs.specs.TaskTiming.{System, IsSound}
+use Rattle.cl_model.specs.{declared.model.SystemModel.SystemModel, Validity.IsValid}
+use Rattle.cl_runs.specs.{SystemOf.system_of, TaskTiming.{System, IsSound}}
 use Rattle.cl_runs.proofs.ModelSystem.{system_sound}
-use Rattle.cl_cycle.specs.declared.cycle.Cycle.{Cycle}
-use Rattle.cl_cycle.specs.Cycles.{is_one_of}
-use Rattle.cl_cycle.specs.Promises.{IsCycleOf}
+use Rattle.cl_cycle.specs.{declared.cycle.Cycle.Cycle, Cycles.is_one_of, Promises.IsCycleOf}
 use Rattle.cl_cycle.proofs.SameCycles.{same_in_phase, same_cycle}
 use Rattle.cl_lead.specs.LeastTimes.{HaveSameLeastTimes}
 use Rattle.cl_lead.proofs.SameLeads.{same_lead}
-use Rattle.cl_bound.specs.declared.answer.TaskAnswer.{TaskAnswer}
-use Rattle.cl_bound.specs.Answers.{answer_at}
-use Rattle.cl_tight.specs.declared.access_windows.AccessWindows.{AccessWindows}
-use Rattle.cl_tight.specs.declared.found.FoundNumbers.{FoundNumbers}
-use Rattle.cl_tight.specs.Found.{number_found}
-use Rattle.cl_tight.specs.TightAnswers.{tight_answers_of}
-use Rattle.cl_tight.specs.TightTimings.{part_response}
-use Rattle.cl_margin.specs.declared.trial.Trial.{Trial}
-use Rattle.cl_margin.specs.declared.whose.Whose.{Whose}
-use Rattle.cl_margin.specs.Grown.{grown}
-use Rattle.cl_margin.specs.Inner.Touched.{touches}
-use Rattle.cl_margin.specs.Inner.Trials.{IsTrialAt, Forgets, is_touched_task}
-use Rattle.cl_margin.proofs.GrownSystem.{system_count, systems_alike}
-use Rattle.cl_margin.proofs.GrownTouched.{task_apart, through_apart}
-use Rattle.cl_margin.proofs.GrownValid.{count_grown}
-use Rattle.cl_margin.proofs.SameAnswers.{same_answer, same_part, past_parts}
+use Rattle.cl_bound.specs.{declared.answer.TaskAnswer.TaskAnswer, Answers.answer_at}
+use Rattle.cl_tight.specs.{declared.{access_windows.AccessWindows.AccessWindows, found.FoundNumbers.FoundNumbers}, Found.number_found, TightAnswers.tight_answers_of, TightTimings.part_response}
+use Rattle.cl_margin.specs.{declared.{trial.Trial.Trial, whose.Whose.Whose}, Grown.grown, Inner.{Touched.touches, Trials.{IsTrialAt, Forgets, is_touched_task}}}
+use Rattle.cl_margin.proofs.{GrownSystem.{system_count, systems_alike}, GrownTouched.{task_apart, through_apart}, GrownValid.count_grown, SameAnswers.{same_answer, same_part, past_parts}}
 
 -- ---- of one task after another
 

@@ -5,23 +5,14 @@ use Rattle.std.specs.List.{range_with_len}
 use Rattle.std.proofs.lemmas.Bool.{cases_lt}
 use Rattle.std.proofs.lemmas.List.{get_or_past}
 use Rattle.std.proofs.lemmas.Simd.{map-map}
-use Rattle.cl_model.specs.declared.chain.ChainDef.{ChainDef}
-use Rattle.cl_model.specs.declared.chain.RequirementDef.{RequirementDef}
-use Rattle.cl_model.specs.declared.model.SystemModel.{SystemModel}
-use Rattle.cl_model.specs.declared.task.RunnableDef.{RunnableDef}
-use Rattle.cl_model.specs.declared.task.TaskDef.{TaskDef}
-use Rattle.cl_model.specs.ByNumber.{no_task, task_at}
-use Rattle.cl_model.specs.Groups.{steps_of, groups_at}
-use Rattle.cl_runs.specs.Requirements.{required_chain}
-use Rattle.cl_runs.specs.SystemOf.{range_of, timing_of, system_of}
-use Rattle.cl_runs.specs.TaskTiming.{TimeRange, Timing, timing_at, no_timing}
+use Rattle.cl_model.specs.{declared.{model.SystemModel.SystemModel, task.{RunnableDef.RunnableDef, TaskDef.TaskDef}}, ByNumber.{no_task, task_at}, Groups.groups_at}
+use Rattle.cl_runs.specs.{SystemOf.{range_of, timing_of, system_of}, TaskTiming.{TimeRange, Timing, timing_at, no_timing}}
 use Rattle.cl_runs.proofs.ModelSystem.{count_is, timing_is}
 use Rattle.cl_lead.specs.LeastTimes.{least_of_each, HaveSameLeastTimes}
 use Rattle.cl_tight.specs.LongerTimes.{DifferInGreatestTimes}
 use Rattle.cl_tune.specs.Scaled.{scaled_runnable, scaled_task}
-use Rattle.cl_tune.proofs.BareChains.{steps_alike, groups_alike}
-use Rattle.cl_margin.specs.declared.whose.Whose.{Whose}
-use Rattle.cl_margin.specs.Grown.{percent_of, grown_task, grown_by, grown}
+use Rattle.cl_tune.proofs.BareChains.{groups_alike}
+use Rattle.cl_margin.specs.{declared.whose.Whose.Whose, Grown.{percent_of, grown_task, grown_by, grown}}
 use Rattle.cl_margin.proofs.GrownValid.{count_grown, task_grown, grown_alike}
 
 -- ---- a grown model
@@ -41,13 +32,6 @@ module _ (model : SystemModel) (whose : Whose) (percent : ℕ) where
   pub requirements_grown : made.requirements ≡ model.requirements
   unfolding grown_by
   requirements_grown = refl
-
-  pub required_grown : (r : RequirementDef) → required_chain made r ≡ required_chain model r
-  unfolding grown_by
-  required_grown r = refl
-
-  pub steps_grown : (chain : ChainDef) → steps_of made chain ≡ steps_of model chain
-  steps_grown = steps_alike model made (grown_alike model whose percent)
 
   pub groups_grown : (c : ℕ) → groups_at made c ≡ groups_at model c
   groups_grown = groups_alike model made (grown_alike model whose percent)
@@ -70,10 +54,6 @@ module _ (model : SystemModel) (whose : Whose) (percent : ℕ) where
   pub timings_grown : (system_of made).tasks ≡ map (grown_timing model whose percent) (range_with_len 0 (length model.tasks))
   unfolding system_of grown_by
   timings_grown = map-map (timing_of made) (grown_task model (percent_of whose percent)) (range_with_len 0 (length model.tasks))
-
-  pub cores_grown : (system_of made).cores ≡ (system_of model).cores
-  unfolding system_of grown_by
-  cores_grown = refl
 
 -- ---- the systems at two percentages
 

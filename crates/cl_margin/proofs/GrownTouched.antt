@@ -4,25 +4,13 @@ use Rattle.std.proofs.Common.{◌≡◌, ℕ, ◌-◌, ◌<◌, ◌≤◌, inl, 
 use Rattle.std.specs.Prelude.{◌==◌}
 use Rattle.std.proofs.lemmas.Bool.{true≢false, cases_eq, eqb-true, eq-eqb, ne_eqb, ltb-true, leb-false, or_parts, false_from_ne_true}
 use Rattle.std.proofs.lemmas.List.Folds.{list_any_at}
-use Rattle.cl_model.specs.declared.group.Group.{Group}
-use Rattle.cl_model.specs.declared.model.SystemModel.{SystemModel}
-use Rattle.cl_model.specs.declared.task.RunnableDef.{RunnableDef}
-use Rattle.cl_model.specs.declared.task.TaskDef.{TaskDef}
-use Rattle.cl_model.specs.ByNumber.{task_at, core_of}
-use Rattle.cl_model.proofs.Greatest.{greatest_within}
-use Rattle.cl_model.proofs.ListFacts.{both_pass}
-use Rattle.cl_runs.specs.SystemOf.{system_of}
-use Rattle.cl_runs.specs.TaskTiming.{timing_at}
-use Rattle.cl_resp.specs.Clear.{greatest_through}
-use Rattle.cl_resp.specs.LesserTimes.{TakesNoMore}
-use Rattle.cl_resp.specs.Question.{longest_hold}
+use Rattle.cl_model.specs.{declared.{group.Group.Group, model.SystemModel.SystemModel, task.{RunnableDef.RunnableDef, TaskDef.TaskDef}}, ByNumber.{task_at, core_of}}
+use Rattle.cl_model.proofs.{Greatest.greatest_within, ListFacts.both_pass}
+use Rattle.cl_runs.specs.{SystemOf.system_of, TaskTiming.timing_at}
+use Rattle.cl_resp.specs.{Clear.greatest_through, LesserTimes.TakesNoMore, Question.longest_hold}
 use Rattle.cl_tight.specs.LongerTimes.{IsNoLonger}
-use Rattle.cl_margin.specs.declared.whose.Whose.{Whose}
-use Rattle.cl_margin.specs.declared.whose.Whose.TheVariants.{EveryTask, OneTask}
-use Rattle.cl_margin.specs.Grown.{percent_of, grown_greatest, grown}
-use Rattle.cl_margin.specs.Inner.Touched.{has_whole, reaches, touches}
-use Rattle.cl_margin.proofs.GrownSystem.{grown_timing}
-use Rattle.cl_margin.proofs.GrownTimes.{timed, hold_at, hold_is, longest_rises, above_it, below_it, takes_where, through_where}
+use Rattle.cl_margin.specs.{declared.whose.Whose.{Whose, TheVariants.{EveryTask, OneTask}}, Grown.{percent_of, grown_greatest, grown}, Inner.Touched.{has_whole, reaches, touches}}
+use Rattle.cl_margin.proofs.{GrownSystem.grown_timing, GrownTimes.{timed, hold_at, hold_is, longest_rises, above_it, below_it, takes_where, through_where}}
 
 -- a task with no whole runnable holds no core
 no_hold : (model : SystemModel) (task : TaskDef) (percent : ℕ) → has_whole task ≡ false → longest_hold (timed model task percent) ≤ 0

@@ -7,21 +7,12 @@ use Rattle.std.proofs.lemmas.List.{same_lists, length-map, get_or-map, get_or_de
 use Rattle.std.proofs.lemmas.List.Elements.{All-map}
 use Rattle.std.proofs.lemmas.List.FromFn.{length-map-range_with_len, get_or-map-range_with_len}
 use Rattle.std.proofs.lemmas.Simd.{map-map}
-use Rattle.cl_model.specs.declared.model.SystemModel.{SystemModel}
-use Rattle.cl_model.specs.declared.task.RunnableDef.{RunnableDef}
-use Rattle.cl_model.specs.declared.task.TaskDef.{TaskDef}
-use Rattle.cl_model.specs.ByNumber.{no_task, task_at}
-use Rattle.cl_model.specs.Ranges.{IsInRange}
-use Rattle.cl_model.specs.Validity.{IsValid}
-use Rattle.cl_model.proofs.ListFacts.{maps_agree}
-use Rattle.cl_model.proofs.ValidTasks.{times_ordered}
+use Rattle.cl_model.specs.{declared.{model.SystemModel.SystemModel, task.{RunnableDef.RunnableDef, TaskDef.TaskDef}}, ByNumber.{no_task, task_at}, Ranges.IsInRange, Validity.IsValid}
+use Rattle.cl_model.proofs.{ListFacts.maps_agree, ValidTasks.times_ordered}
 use Rattle.cl_resp.proofs.Filters.{by_number}
 use Rattle.cl_tune.specs.Scaled.{scaled_time, scaled_runnable, scaled_task}
-use Rattle.cl_tune.proofs.BareModels.{bare_task, bare_model, IsOrdered, AreOrdered, valid_but_times}
-use Rattle.cl_tune.proofs.ScaledValid.{scaled_ordered, scaled_bare}
-use Rattle.cl_margin.specs.declared.whose.Whose.{Whose}
-use Rattle.cl_margin.specs.declared.whose.Whose.TheVariants.{EveryTask, OneTask}
-use Rattle.cl_margin.specs.Grown.{percent_of, grown_task, grown_by, grown}
+use Rattle.cl_tune.proofs.{BareModels.{bare_task, bare_model, IsOrdered, AreOrdered, valid_but_times}, ScaledValid.{scaled_ordered, scaled_bare}}
+use Rattle.cl_margin.specs.{declared.whose.Whose.{Whose, TheVariants.{EveryTask, OneTask}}, Grown.{percent_of, grown_task, grown_by, grown}}
 
 -- ---- a task at 100 percent
 

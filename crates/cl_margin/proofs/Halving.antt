@@ -1,22 +1,9 @@
 -- Halving over something that is asked: it holds at the lower end, and the upper end doesn't keep all that is met.
 use Rattle.std.proofs.Common.{◌≡◌, ℕ, ◌+◌, ◌<◌, ◌≤◌, inl, inr, List, sym, subst, arith}
 use Rattle.std.proofs.lemmas.Bool.{cases_eq}
-use Rattle.cl_model.specs.declared.model.SystemModel.{SystemModel}
-use Rattle.cl_model.specs.Ranges.{IsInRange}
-use Rattle.cl_model.specs.Validity.{IsValid}
-use Rattle.cl_margin.specs.declared.allowed.Allowed.{Allowed}
-use Rattle.cl_margin.specs.declared.searching.Item.{Item}
-use Rattle.cl_margin.specs.declared.searching.Search.{Search}
-use Rattle.cl_margin.specs.declared.trial.Trial.{Trial}
-use Rattle.cl_margin.specs.declared.whose.Whose.{Whose}
-use Rattle.cl_margin.specs.Grown.{grown}
-use Rattle.cl_margin.specs.Margins.{KeepsMet}
-use Rattle.cl_margin.specs.Inner.Searches.{IsMetItem, KeepsItem, IsMarginSearch}
-use Rattle.cl_margin.specs.Inner.Touched.{IsMostInRange}
-use Rattle.cl_margin.specs.Inner.Trials.{IsTrialOf, IsTrialAt}
-use Rattle.cl_margin.proofs.AskedItems.{kept_at_whole, item_at_whole, fails_above}
-use Rattle.cl_margin.proofs.GrownRange.{range_stays}
-use Rattle.cl_margin.proofs.GrownValid.{grown_same}
+use Rattle.cl_model.specs.{declared.model.SystemModel.SystemModel, Ranges.IsInRange, Validity.IsValid}
+use Rattle.cl_margin.specs.{declared.{allowed.Allowed.Allowed, searching.{Item.Item, Search.Search}, trial.Trial.Trial, whose.Whose.Whose}, Grown.grown, Margins.KeepsMet, Inner.{Searches.{IsMetItem, KeepsItem, IsMarginSearch}, Touched.IsMostInRange, Trials.{IsTrialOf, IsTrialAt}}}
+use Rattle.cl_margin.proofs.{AskedItems.{kept_at_whole, item_at_whole, fails_above}, GrownRange.range_stays, GrownValid.grown_same}
 
 pub record IsHalved (model : SystemModel) (whose : Whose) (item : Item) (percent low high : ℕ) (tried : Trial) : Type 0 where
   pub some : 100 ≤ low

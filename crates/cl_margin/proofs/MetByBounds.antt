@@ -3,24 +3,15 @@
 use Rattle.std.proofs.Common.{◌≡◌, ℕ, ◌<◌, ◌≤◌, Bool, true, false, not, Option, Some, None, length, refl, sym, ap, ◌∙◌, arith}
 use Rattle.std.specs.Prelude.{nat_le, if◌then◌else◌}
 use Rattle.std.proofs.Math.Nat.{lt_of_not-le}
-use Rattle.std.proofs.lemmas.Bool.{false≢true, leb-true, le-leb}
+use Rattle.std.proofs.lemmas.Bool.{false≢true, leb-true}
 use Rattle.std.proofs.lemmas.List.{get_or-map, get_or_past, length-map}
 use Rattle.std.proofs.lemmas.List.FromFn.{length-map-range_with_len}
-use Rattle.cl_model.specs.declared.chain.RequirementDef.{RequirementDef}
-use Rattle.cl_model.specs.declared.chain.RequirementKind.{RequirementKind}
-use Rattle.cl_model.specs.declared.model.SystemModel.{SystemModel}
-use Rattle.cl_runs.specs.Requirements.{no_requirement, requirement_at, required_chain}
-use Rattle.cl_runs.specs.SystemOf.{system_of}
+use Rattle.cl_model.specs.declared.{chain.{RequirementDef.RequirementDef, RequirementKind.RequirementKind}, model.SystemModel.SystemModel}
+use Rattle.cl_runs.specs.{Requirements.{no_requirement, requirement_at, required_chain}, SystemOf.system_of}
 use Rattle.cl_runs.proofs.ModelSystem.{count_is}
-use Rattle.cl_bound.specs.Answers.{answer_at, is_late}
-use Rattle.cl_bound.specs.Bounds.{Lengths}
-use Rattle.cl_analyse.specs.declared.findings.ChainAnswer.{ChainAnswer}
-use Rattle.cl_analyse.specs.declared.findings.ChainAnswer.TheVariants.{Bounds, Late}
-use Rattle.cl_analyse.specs.declared.findings.Verdict.TheVariants.{Met, Broken, Unshown}
-use Rattle.cl_analyse.specs.ChainAnswers.{chain_answer_at}
-use Rattle.cl_analyse.specs.Verdicts.{limited_bound, required_bound, verdict_on, is_met}
-use Rattle.cl_tight.specs.TightAnswers.{tight_answer_to, tight_answers_of}
-use Rattle.cl_tight.specs.TightFindings.{tight_chain_answer_of, tight_chain_answers_of, has_exact_bounds, exact_bound, tight_verdict_of, tight_findings_of}
+use Rattle.cl_bound.specs.{Answers.{answer_at, is_late}, Bounds.Lengths}
+use Rattle.cl_analyse.specs.{declared.findings.{ChainAnswer.{ChainAnswer, TheVariants.{Bounds, Late}}, Verdict.TheVariants.{Met, Broken, Unshown}}, ChainAnswers.chain_answer_at, Verdicts.{limited_bound, required_bound, verdict_on, is_met}}
+use Rattle.cl_tight.specs.{TightAnswers.{tight_answer_to, tight_answers_of}, TightFindings.{tight_chain_answer_of, tight_chain_answers_of, has_exact_bounds, exact_bound, tight_verdict_of, tight_findings_of}}
 use Rattle.cl_margin.specs.Margins.{is_met_task, is_met_requirement}
 
 -- a bound that there is is at most so much
@@ -86,10 +77,3 @@ module _ (model : SystemModel) where
     pub met_by_bounds : is_met_requirement (tight_findings_of model) i ≡ true
         → (bounds : Lengths) × (answer ≡ Bounds bounds) × (limited_bound requirement.kind bounds ≤ requirement.most)
     met_by_bounds is = bounds_within requirement.kind requirement.most answer (sym requirement_met_is ∙ is)
-
-    pub met_where_bounded : (bounds : Lengths) → answer ≡ Bounds bounds → limited_bound requirement.kind bounds ≤ requirement.most
-        → is_met_requirement (tight_findings_of model) i ≡ true
-    met_where_bounded bounds is le =
-        requirement_met_is
-        ∙ ap (λ (a : ChainAnswer). is_within requirement.most (required_bound requirement.kind a)) is
-        ∙ le-leb (limited_bound requirement.kind bounds) requirement.most le

@@ -4,29 +4,13 @@ use Rattle.std.specs.Prelude.{nat_lt, nat_le}
 use Rattle.std.proofs.lemmas.Bool.{true≢false, MatchBool-at_true}
 use Rattle.std.proofs.lemmas.Bool.Decides.{nat_tests}
 use Rattle.std.proofs.lemmas.List.{get_or_default}
-use Rattle.cl_model.specs.declared.chain.RequirementDef.{RequirementDef}
-use Rattle.cl_model.specs.declared.model.SystemModel.{SystemModel}
-use Rattle.cl_model.specs.Ranges.{IsInRange}
-use Rattle.cl_model.specs.Validity.{IsValid}
-use Rattle.cl_runs.specs.Requirements.{no_requirement, requirement_at, required_chain}
-use Rattle.cl_runs.specs.SystemOf.{system_of}
+use Rattle.cl_model.specs.{declared.{chain.RequirementDef.RequirementDef, model.SystemModel.SystemModel}, Ranges.IsInRange, Validity.IsValid}
+use Rattle.cl_runs.specs.{Requirements.{no_requirement, requirement_at, required_chain}, SystemOf.system_of}
 use Rattle.cl_bound.specs.Answers.{answer_at, is_late}
-use Rattle.cl_analyse.specs.declared.findings.ChainAnswer.{ChainAnswer}
-use Rattle.cl_analyse.specs.ChainAnswers.{chain_answer_at}
-use Rattle.cl_analyse.specs.Verdicts.{required_bound}
-use Rattle.cl_tight.specs.TightAnswers.{tight_answers_of}
-use Rattle.cl_tight.specs.TightFindings.{tight_chain_answers_of, tight_findings_of}
-use Rattle.cl_margin.specs.declared.trial.Trial.{Trial}
-use Rattle.cl_margin.specs.declared.whose.Whose.{Whose}
-use Rattle.cl_margin.specs.Grown.{grown_by, grown}
-use Rattle.cl_margin.specs.Margins.{is_met_task, is_met_requirement, IsFirstLost}
-use Rattle.cl_margin.specs.Inner.Searches.{KeepsTask, IsNewlyBroken}
-use Rattle.cl_margin.specs.Inner.Touched.{touches, touches_chain}
-use Rattle.cl_margin.specs.Inner.Trials.{IsTrialAt}
-use Rattle.cl_margin.proofs.GrownSystem.{chains_grown}
-use Rattle.cl_margin.proofs.GrownValid.{count_grown}
-use Rattle.cl_margin.proofs.MetByBounds.{is_within, task_met_is, requirement_met_is}
-use Rattle.cl_margin.proofs.StaysMet.{task_untouched, requirement_untouched}
+use Rattle.cl_analyse.specs.{declared.findings.ChainAnswer.ChainAnswer, ChainAnswers.chain_answer_at, Verdicts.required_bound}
+use Rattle.cl_tight.specs.{TightAnswers.tight_answers_of, TightFindings.{tight_chain_answers_of, tight_findings_of}}
+use Rattle.cl_margin.specs.{declared.{trial.Trial.Trial, whose.Whose.Whose}, Grown.{grown_by, grown}, Margins.{is_met_task, is_met_requirement, IsFirstLost}, Inner.{Searches.{KeepsTask, IsNewlyBroken}, Touched.{touches, touches_chain}, Trials.IsTrialAt}}
+use Rattle.cl_margin.proofs.{GrownSystem.chains_grown, GrownValid.count_grown, MetByBounds.{is_within, task_met_is, requirement_met_is}, StaysMet.{task_untouched, requirement_untouched}}
 
 -- what isn't met then is broken, where it is met now
 pub broken_where : (broken met met_then : Bool) → broken ≡ not met_then → met ≡ true → IsNewlyBroken broken met met_then

@@ -3,22 +3,12 @@
 use Rattle.std.proofs.Common.{◌≡◌, ℕ, zero, suc, ◌+◌, ◌<◌, ◌≤◌, ◌⊎◌, inl, inr, Bool, true, false, Option, Some, None, length, refl, sym, ap, ◌∙◌, subst, arith}
 use Rattle.std.specs.List.{list_all}
 use Rattle.std.proofs.lemmas.Bool.{true≢false, false≢true, cases_eq, cases_order}
-use Rattle.cl_model.specs.declared.model.SystemModel.{SystemModel}
-use Rattle.cl_model.specs.ByNumber.{task_at}
-use Rattle.cl_model.specs.Ranges.{IsInRange}
-use Rattle.cl_model.specs.Validity.{IsValid}
+use Rattle.cl_model.specs.{declared.model.SystemModel.SystemModel, ByNumber.task_at, Ranges.IsInRange, Validity.IsValid}
 use Rattle.cl_tight.specs.TightFindings.{tight_findings_of}
 use Rattle.cl_tune.specs.declared.percent.TheConstants.{MOST_PERCENT}
-use Rattle.cl_margin.specs.declared.answer.Breaks.{Breaks}
-use Rattle.cl_margin.specs.declared.answer.Breaks.TheVariants.{Task, Requirement, Limit}
-use Rattle.cl_margin.specs.declared.answer.Margin.{Margin}
-use Rattle.cl_margin.specs.declared.whose.Whose.{Whose}
-use Rattle.cl_margin.specs.declared.whose.Whose.TheVariants.{EveryTask, OneTask}
-use Rattle.cl_margin.specs.Grown.{grown}
-use Rattle.cl_margin.specs.Margins.{is_met_task, is_met_requirement, KeepsMet, IsFirstLost, IsFirstLate, IsFirstUnmet, BreaksFirst, IsGreatestPercent, BreaksAfter, IsMargin}
-use Rattle.cl_margin.specs.Inner.Touched.{IsOfModel, are_times_within}
-use Rattle.cl_margin.proofs.GrownRange.{every_in_range, every_passes, one_in_range, one_passes}
-use Rattle.cl_margin.proofs.GrownValid.{grown_same}
+use Rattle.cl_margin.specs.{declared.{answer.{Breaks.{Breaks, TheVariants.{Task, Requirement, Limit}}, Margin.Margin}, whose.Whose.{Whose, TheVariants.{EveryTask, OneTask}}}, Grown.grown, Margins.{is_met_task, is_met_requirement, KeepsMet, IsFirstLost, IsFirstLate, IsFirstUnmet}}
+use Rattle.cl_margin.specs.{Margins.{BreaksFirst, IsGreatestPercent, BreaksAfter, IsMargin}, Inner.Touched.{IsOfModel, are_times_within}}
+use Rattle.cl_margin.proofs.{GrownRange.{every_in_range, every_passes, one_in_range, one_passes}, GrownValid.grown_same}
 
 -- ---- what breaks
 

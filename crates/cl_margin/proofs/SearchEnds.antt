@@ -6,21 +6,12 @@ use Rattle.std.proofs.lemmas.Bool.{cases_order}
 use Rattle.std.proofs.lemmas.List.{get_or_default}
 use Rattle.std.proofs.lemmas.List.FromFn.{length-range_with_len, get_or-range_with_len}
 use Rattle.std.proofs.lemmas.List.Sorted.{Contains-permutation, All-permutation}
-use Rattle.cl_model.specs.declared.model.SystemModel.{SystemModel}
-use Rattle.cl_model.specs.Ranges.{IsInRange}
-use Rattle.cl_model.specs.Validity.{IsValid}
+use Rattle.cl_model.specs.{declared.model.SystemModel.SystemModel, Ranges.IsInRange, Validity.IsValid}
 use Rattle.cl_runs.specs.Requirements.{requirement_at, required_chain}
 use Rattle.cl_tune.specs.declared.percent.TheConstants.{MOST_PERCENT}
-use Rattle.cl_margin.specs.declared.answer.Breaks.{Breaks}
-use Rattle.cl_margin.specs.declared.answer.Breaks.TheVariants.{Limit}
-use Rattle.cl_margin.specs.declared.searching.Search.{Search}
-use Rattle.cl_margin.specs.declared.whose.Whose.{Whose}
-use Rattle.cl_margin.specs.Grown.{grown}
-use Rattle.cl_margin.specs.Margins.{KeepsTasks, KeepsMet, BreaksFirst, IsGreatestPercent, IsMargin}
-use Rattle.cl_margin.specs.Inner.Searches.{KeepsTask, KeepsChain, IsMarginSearch}
+use Rattle.cl_margin.specs.{declared.{answer.Breaks.{Breaks, TheVariants.Limit}, searching.Search.Search, whose.Whose.Whose}, Grown.grown, Margins.{KeepsTasks, KeepsMet, BreaksFirst, IsGreatestPercent, IsMargin}, Inner.Searches.{KeepsTask, KeepsChain, IsMarginSearch}}
 use Rattle.cl_margin.specs.Inner.Touched.{IsMostInRange}
-use Rattle.cl_margin.proofs.GrownRange.{range_stays}
-use Rattle.cl_margin.proofs.MetByBounds.{chain_bounded, met_by_bounds}
+use Rattle.cl_margin.proofs.{GrownRange.range_stays, MetByBounds.{chain_bounded, met_by_bounds}}
 
 -- ---- all that is asked
 
@@ -63,9 +54,6 @@ module _ (model : SystemModel) (whose : Whose) (percent : ℕ) where
       (record { some = is.some; few = is.few; kept = kept; greatest = is.greatest })
 
   module _ (best : IsGreatestPercent model whose percent) where
-    pub margin_most : percent ≡ MOST_PERCENT → IsMargin model whose (record { percent = percent; breaks = None })
-    margin_most is = record { best = best; breaks = is }
-
     few_more : (percent ≡ MOST_PERCENT → ⊥) → percent < MOST_PERCENT
     few_more apart = omega (arith, apart, best.few)
 

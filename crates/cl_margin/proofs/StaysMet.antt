@@ -4,32 +4,16 @@ use Rattle.std.proofs.Common.{◌≡◌, ℕ, ◌<◌, ◌≤◌, Bool, true, fa
 use Rattle.std.specs.Prelude.{All}
 use Rattle.std.proofs.lemmas.Bool.{false_from_ne_true, false≢true, true≢false}
 use Rattle.std.proofs.lemmas.List.Folds.{list_any_at}
-use Rattle.cl_model.specs.declared.group.Group.{Group}
-use Rattle.cl_model.specs.declared.model.SystemModel.{SystemModel}
-use Rattle.cl_model.specs.Groups.{groups_at}
-use Rattle.cl_model.specs.Ranges.{IsInRange}
-use Rattle.cl_model.specs.Validity.{IsValid}
+use Rattle.cl_model.specs.{declared.{group.Group.Group, model.SystemModel.SystemModel}, Groups.groups_at, Ranges.IsInRange, Validity.IsValid}
 use Rattle.cl_model.proofs.GroupFacts.{groups_at_are}
-use Rattle.cl_runs.specs.Requirements.{requirement_at, required_chain}
-use Rattle.cl_runs.specs.SystemOf.{system_of}
+use Rattle.cl_runs.specs.{Requirements.{requirement_at, required_chain}, SystemOf.system_of}
 use Rattle.cl_resp.specs.LesserTimes.{TakesNoMore}
-use Rattle.cl_bound.specs.Answers.{answer_at, is_late}
-use Rattle.cl_bound.specs.Bounds.{Lengths}
-use Rattle.cl_analyse.specs.declared.findings.ChainAnswer.TheVariants.{Bounds}
-use Rattle.cl_analyse.specs.ChainAnswers.{chain_answer_at}
-use Rattle.cl_analyse.specs.Verdicts.{limited_bound}
-use Rattle.cl_tight.specs.LongerTimes.{IsNoLonger}
-use Rattle.cl_tight.specs.TightFindings.{tight_chain_answers_of, tight_findings_of}
+use Rattle.cl_bound.specs.{Answers.{answer_at, is_late}, Bounds.Lengths}
+use Rattle.cl_analyse.specs.{declared.findings.ChainAnswer.TheVariants.Bounds, ChainAnswers.chain_answer_at, Verdicts.limited_bound}
+use Rattle.cl_tight.specs.{LongerTimes.IsNoLonger, TightFindings.{tight_chain_answers_of, tight_findings_of}}
 use Rattle.cl_tight.proofs.LongerFindings.{met_bounds, bounds_meet, tasks_stay, requirements_stay}
-use Rattle.cl_margin.specs.declared.whose.Whose.{Whose}
-use Rattle.cl_margin.specs.Grown.{grown_by, grown}
-use Rattle.cl_margin.specs.Inner.Touched.{touches, touches_chain}
-use Rattle.cl_margin.specs.Margins.{is_met_task, is_met_requirement, KeepsMet, SmallerKeepMet}
-use Rattle.cl_margin.proofs.GrownRange.{range_stays}
-use Rattle.cl_margin.proofs.GrownSystem.{groups_grown, models_alike}
-use Rattle.cl_margin.proofs.GrownTimes.{task_below, group_below}
-use Rattle.cl_margin.proofs.GrownTouched.{task_apart, group_apart}
-use Rattle.cl_margin.proofs.GrownValid.{grown_valid, grown_same}
+use Rattle.cl_margin.specs.{declared.whose.Whose.Whose, Grown.{grown_by, grown}, Inner.Touched.{touches, touches_chain}, Margins.{is_met_task, is_met_requirement, KeepsMet, SmallerKeepMet}}
+use Rattle.cl_margin.proofs.{GrownRange.range_stays, GrownSystem.{groups_grown, models_alike}, GrownTimes.{task_below, group_below}, GrownTouched.{task_apart, group_apart}, GrownValid.{grown_valid, grown_same}}
 
 not_true : (b : Bool) → not b ≡ true → b ≡ false
 not_true true is = absurd (false≢true is)

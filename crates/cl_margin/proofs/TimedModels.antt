@@ -8,14 +8,7 @@ use Rattle.std.proofs.lemmas.List.{same_lists, length-set, get_or-set_same, get_
 use Rattle.std.proofs.lemmas.List.Elements.{All-map}
 use Rattle.std.proofs.lemmas.List.FromFn.{length-range_with_len, get_or-range_with_len, length-map-range_with_len, get_or-map-range_with_len}
 use Rattle.std.proofs.lemmas.Simd.{map-map}
-use Rattle.cl_model.specs.declared.limits.TheConstants.{MOST_TICKS}
-use Rattle.cl_model.specs.declared.model.SystemModel.{SystemModel}
-use Rattle.cl_model.specs.declared.task.RunnableDef.{RunnableDef}
-use Rattle.cl_model.specs.declared.task.TaskDef.{TaskDef}
-use Rattle.cl_model.specs.ByNumber.{no_task, no_runnable, task_at}
-use Rattle.cl_model.specs.Changes.{with_range}
-use Rattle.cl_model.specs.Groups.{IsStepOf}
-use Rattle.cl_model.specs.Ranges.{IsRunnableInRange, IsTaskInRange, IsInRange}
+use Rattle.cl_model.specs.{declared.{limits.TheConstants.MOST_TICKS, model.SystemModel.SystemModel, task.{RunnableDef.RunnableDef, TaskDef.TaskDef}}, ByNumber.{no_task, no_runnable, task_at}, Changes.with_range, Groups.IsStepOf, Ranges.{IsRunnableInRange, IsTaskInRange, IsInRange}}
 use Rattle.cl_model.specs.Validity.{IsValid}
 use Rattle.cl_model.proofs.ListFacts.{maps_agree}
 use Rattle.cl_resp.proofs.Filters.{by_number}

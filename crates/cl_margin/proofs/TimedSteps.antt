@@ -2,20 +2,9 @@
 use Rattle.std.proofs.Common.{◌≡◌, ℕ, ◌+◌, ◌<◌, ◌≤◌, inl, inr, Bool, true, false, cond, ◌&&◌, nat_lt, List, length, refl, sym, ap, ◌∙◌, subst, arith}
 use Rattle.std.specs.Prelude.{◌==◌}
 use Rattle.std.proofs.lemmas.Bool.{cases_lt, cases_eq, eq-eqb, ne_eqb, eqb-true, lt-ltb, le-ltb}
-use Rattle.cl_model.specs.declared.group.Step.{Step}
-use Rattle.cl_model.specs.declared.limits.TheConstants.{MOST_TICKS}
-use Rattle.cl_model.specs.declared.model.SystemModel.{SystemModel}
-use Rattle.cl_model.specs.declared.task.RunnableDef.{RunnableDef}
-use Rattle.cl_model.specs.declared.task.TaskDef.{TaskDef}
-use Rattle.cl_model.specs.ByNumber.{task_at}
-use Rattle.cl_model.specs.Changes.{with_range}
-use Rattle.cl_model.specs.Groups.{IsStepOf}
-use Rattle.cl_model.specs.Ranges.{IsInRange}
-use Rattle.cl_model.specs.Validity.{IsValid}
+use Rattle.cl_model.specs.{declared.{group.Step.Step, limits.TheConstants.MOST_TICKS, model.SystemModel.SystemModel, task.{RunnableDef.RunnableDef, TaskDef.TaskDef}}, ByNumber.task_at, Changes.with_range, Groups.IsStepOf, Ranges.IsInRange, Validity.IsValid}
 use Rattle.cl_model.proofs.ListFacts.{both_pass}
-use Rattle.cl_margin.specs.declared.whose.Whose.TheVariants.{EveryTask, OneTask}
-use Rattle.cl_margin.specs.Grown.{percent_of, grown_greatest, grown_task, grown_by, grown}
-use Rattle.cl_margin.specs.Inner.Trials.{with_percent}
+use Rattle.cl_margin.specs.{declared.whose.Whose.TheVariants.{EveryTask, OneTask}, Grown.{percent_of, grown_greatest, grown_task, grown_by, grown}, Inner.Trials.with_percent}
 use Rattle.cl_margin.proofs.TimedModels.{maps_within, runnable_in, timed_model, same_timed, step_timed, AreTimes, timed_valid, put, range_put, percent_times, grown_timed, times_of, in_range_of}
 
 -- ---- tests of numbers

@@ -5,13 +5,9 @@ use Rattle.std.specs.List.{filter, list_any, range_with_len}
 use Rattle.std.proofs.lemmas.Bool.{eqb-true, eq-eqb, ltb-true, lt-ltb}
 use Rattle.std.proofs.lemmas.List.Folds.{Any-from_list_any, list_any_more}
 use Rattle.std.proofs.lemmas.List.FromFn.{length-range_with_len, get_or-range_with_len}
-use Rattle.cl_model.specs.declared.model.SystemModel.{SystemModel}
-use Rattle.cl_model.specs.ByNumber.{core_of, tasks_of_core}
+use Rattle.cl_model.specs.{declared.model.SystemModel.SystemModel, ByNumber.{core_of, tasks_of_core}}
 use Rattle.cl_model.proofs.ListFacts.{both_pass, both_true, same_tests}
-use Rattle.cl_margin.specs.declared.trial.Trial.{Trial}
-use Rattle.cl_margin.specs.declared.whose.Whose.TheVariants.{OneTask}
-use Rattle.cl_margin.specs.Inner.Touched.{touches}
-use Rattle.cl_margin.specs.Inner.Trials.{Forgets, is_touched_task}
+use Rattle.cl_margin.specs.{declared.{trial.Trial.Trial, whose.Whose.TheVariants.OneTask}, Inner.{Touched.touches, Trials.{Forgets, is_touched_task}}}
 use Rattle.cl_margin.proofs.Forgotten.{forgets_alike, forgets_more}
 
 or_true : (a b : Bool) → b ≡ true → (a || b) ≡ true

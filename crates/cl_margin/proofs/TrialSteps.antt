@@ -7,26 +7,15 @@ use Rattle.std.proofs.lemmas.List.{length-map, length-set, get_or-map, get_or_de
 use Rattle.std.proofs.lemmas.List.FromFn.{length-map-range_with_len}
 use Rattle.std.proofs.lemmas.Option.{same_Some, slice_get-get_or, slice_get_within, get_or_from_slice_get}
 use Rattle.cl_model.specs.declared.model.SystemModel.{SystemModel}
-use Rattle.cl_runs.specs.SystemOf.{system_of}
-use Rattle.cl_runs.specs.TaskTiming.{System, timing_at, IsSound}
+use Rattle.cl_runs.specs.{SystemOf.system_of, TaskTiming.{System, timing_at, IsSound}}
 use Rattle.cl_runs.proofs.ModelSystem.{count_is}
-use Rattle.cl_cycle.specs.declared.cycle.Cycle.{Cycle}
-use Rattle.cl_cycle.specs.Promises.{IsCycleOf}
-use Rattle.cl_resp.specs.ByPhase.{IsSettledByPhase}
-use Rattle.cl_resp.specs.Question.{tight_question_of}
-use Rattle.cl_resp.specs.Response.{Response, busy_window, IsTightlySettled}
+use Rattle.cl_cycle.specs.{declared.cycle.Cycle.Cycle, Promises.IsCycleOf}
+use Rattle.cl_resp.specs.{ByPhase.IsSettledByPhase, Question.tight_question_of, Response.{Response, busy_window, IsTightlySettled}}
 use Rattle.cl_resp.proofs.AnsweredSooner.{tight_by_phase}
-use Rattle.cl_bound.specs.declared.answer.TaskAnswer.{TaskAnswer}
-use Rattle.cl_bound.specs.declared.answer.TaskAnswer.TheVariants.{Settled, Late}
-use Rattle.cl_bound.specs.Answers.{answer_with, answer_at, is_late, response_in}
-use Rattle.cl_tight.specs.declared.access_windows.AccessWindows.{AccessWindows}
-use Rattle.cl_tight.specs.declared.findings.TightFindings.{TightFindings}
-use Rattle.cl_tight.specs.Found.{AreWindowsOf}
-use Rattle.cl_tight.specs.TightAnswers.{tight_answer_to, tight_answers_of, tight_response}
-use Rattle.cl_tight.specs.TightFindings.{tight_findings_of}
+use Rattle.cl_bound.specs.{declared.answer.TaskAnswer.{TaskAnswer, TheVariants.{Settled, Late}}, Answers.{answer_with, answer_at, is_late, response_in}}
+use Rattle.cl_tight.specs.{declared.{access_windows.AccessWindows.AccessWindows, findings.TightFindings.TightFindings}, Found.AreWindowsOf, TightAnswers.{tight_answer_to, tight_answers_of, tight_response}, TightFindings.tight_findings_of}
 use Rattle.cl_tight.proofs.TightTasks.{phased_answer, tight_task}
-use Rattle.cl_margin.specs.declared.trial.Trial.{Trial}
-use Rattle.cl_margin.specs.Inner.Trials.{AreFoundAnswers, AreCyclesOf, IsTrialOf, with_answer}
+use Rattle.cl_margin.specs.{declared.trial.Trial.Trial, Inner.Trials.{AreFoundAnswers, AreCyclesOf, IsTrialOf, with_answer}}
 
 none_some : {A : Type 0} {x : Option A} {a : A} → x ≡ None → x ≡ Some a → ⊥
 none_some none some = cc

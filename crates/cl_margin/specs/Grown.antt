@@ -1,13 +1,9 @@
 -- A model whose greatest execution times have grown, of all tasks or of one. Times are in ticks.
 use Rattle.std.specs.Prelude.{ℕ, ◌==◌, if◌then◌else◌, length, map, sum_by}
 use Rattle.std.specs.List.{range_with_len}
-use Rattle.cl_model.specs.declared.model.SystemModel.{SystemModel}
-use Rattle.cl_model.specs.declared.task.RunnableDef.{RunnableDef}
-use Rattle.cl_model.specs.declared.task.TaskDef.{TaskDef}
-use Rattle.cl_model.specs.ByNumber.{task_at}
+use Rattle.cl_model.specs.{declared.{model.SystemModel.SystemModel, task.{RunnableDef.RunnableDef, TaskDef.TaskDef}}, ByNumber.task_at}
 use Rattle.cl_tune.specs.Scaled.{scaled_time, scaled_task}
-use Rattle.cl_margin.specs.declared.whose.Whose.{Whose}
-use Rattle.cl_margin.specs.declared.whose.Whose.TheVariants.{EveryTask, OneTask}
+use Rattle.cl_margin.specs.declared.whose.Whose.{Whose, TheVariants.{EveryTask, OneTask}}
 
 -- the percentage of the greatest times of a task, where those of some tasks are at this one: those of all others are at
 -- 100, where each is as it stands

@@ -1,19 +1,11 @@
 -- How far the greatest execution times of a model may grow until something breaks that is met, and what breaks first.
 use Rattle.std.specs.Prelude.{◌≡◌, ℕ, ◌+◌, ◌<◌, ◌≤◌, Bool, true, false, not, List, length, slice_index_or, Option, Some, None}
-use Rattle.cl_model.specs.declared.model.SystemModel.{SystemModel}
-use Rattle.cl_model.specs.Ranges.{IsInRange}
+use Rattle.cl_model.specs.{declared.model.SystemModel.SystemModel, Ranges.IsInRange}
 use Rattle.cl_bound.specs.Answers.{answer_at, is_late}
 use Rattle.cl_analyse.specs.Verdicts.{verdict_at, is_met}
-use Rattle.cl_tight.specs.declared.findings.TightFindings.{TightFindings}
-use Rattle.cl_tight.specs.TightFindings.{tight_findings_of}
+use Rattle.cl_tight.specs.{declared.findings.TightFindings.TightFindings, TightFindings.tight_findings_of}
 use Rattle.cl_tune.specs.declared.percent.TheConstants.{MOST_PERCENT}
-use Rattle.cl_margin.specs.declared.answer.Breaks.{Breaks}
-use Rattle.cl_margin.specs.declared.answer.Breaks.TheVariants.{Task, Requirement, Limit}
-use Rattle.cl_margin.specs.declared.answer.Margin.{Margin}
-use Rattle.cl_margin.specs.declared.answer.Margins.{Margins}
-use Rattle.cl_margin.specs.declared.whose.Whose.{Whose}
-use Rattle.cl_margin.specs.declared.whose.Whose.TheVariants.{EveryTask, OneTask}
-use Rattle.cl_margin.specs.Grown.{grown}
+use Rattle.cl_margin.specs.{declared.{answer.{Breaks.{Breaks, TheVariants.{Task, Requirement, Limit}}, Margin.Margin, Margins.Margins}, whose.Whose.{Whose, TheVariants.{EveryTask, OneTask}}}, Grown.grown}
 
 -- ---- what is met
 

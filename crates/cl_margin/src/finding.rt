@@ -1,9 +1,7 @@
 //! The margins of a model.
 ghost use Rattle.std.specs.Prelude.{◌≡◌, ℕ, ◌<◌, length, IfOk};
 ghost use Rattle.cl_tight.specs.TightFindings.{tight_findings_of};
-ghost use Rattle.cl_margin.specs.declared.whose.Whose.TheVariants.{EveryTask, OneTask};
-ghost use Rattle.cl_margin.specs.Margins.{margin_at, AreMargins, SmallerKeepMet};
-ghost use Rattle.cl_margin.specs.Inner.Trials.{IsStanding};
+ghost use Rattle.cl_margin.specs.{declared.whose.Whose.TheVariants.{EveryTask, OneTask}, Margins.{margin_at, AreMargins, SmallerKeepMet}, Inner.Trials.IsStanding};
 
 use crate::allowed::allowed_of;
 use crate::answer::Margins;

@@ -1,14 +1,8 @@
 //! What holds as greatest execution times grow: models stay valid, nothing that isn't met becomes
 //! met, and there is exactly one margin.
 ghost use Rattle.std.specs.Prelude.{◌≡◌, ℕ};
-ghost use Rattle.cl_model.specs.declared.model.SystemModel.{SystemModel};
-ghost use Rattle.cl_model.specs.Validity.{IsValid};
-ghost use Rattle.cl_model.specs.Ranges.{IsInRange};
-ghost use Rattle.cl_margin.specs.declared.answer.Margin.{Margin};
-ghost use Rattle.cl_margin.specs.declared.whose.Whose.{Whose};
-ghost use Rattle.cl_margin.specs.Grown.{grown};
-ghost use Rattle.cl_margin.specs.Margins.{KeepsMet, IsMargin, SmallerKeepMet};
-ghost use Rattle.cl_margin.specs.Inner.Touched.{IsOfModel};
+ghost use Rattle.cl_model.specs.{declared.model.SystemModel.SystemModel, Validity.IsValid, Ranges.IsInRange};
+ghost use Rattle.cl_margin.specs.{declared.{answer.Margin.Margin, whose.Whose.Whose}, Grown.grown, Margins.{KeepsMet, IsMargin, SmallerKeepMet}, Inner.Touched.IsOfModel};
 
 /// A valid model whose times have grown is valid where it is in range, and at 100 percent it is the
 /// model itself.

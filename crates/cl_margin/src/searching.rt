@@ -1,12 +1,9 @@
 //! How the margin of some tasks is found: by halving, over one thing that is met after the other.
 ghost use Rattle.std.specs.Prelude.{◌≡◌, ℕ, ◌<◌, ◌≤◌, true, not, length, IfOk, IfSome, IfNone};
 ghost use Rattle.cl_model.specs.Ranges.{IsInRange};
-ghost use Rattle.cl_margin.specs.Grown.{grown};
-ghost use Rattle.cl_margin.specs.Margins.{is_met_task, is_met_requirement, KeepsTasks, KeepsMet, IsFirstLate, IsFirstUnmet, BreaksFirst, IsMargin, SmallerKeepMet};
+ghost use Rattle.cl_margin.specs.{Grown.grown, Margins.{is_met_task, is_met_requirement, KeepsTasks, KeepsMet, IsFirstLate, IsFirstUnmet, BreaksFirst, IsMargin, SmallerKeepMet}, Inner.Searches.{holds, FitsItem, IsItemOf, IsMetItem, KeepsTask, KeepsChain, KeepsItem, IsNewlyBroken}};
+ghost use Rattle.cl_margin.specs.Inner.{Searches.IsMarginSearch, Touched.IsOfModel, Trials.{IsTrialOf, IsTrialAt, IsStanding}};
 ghost use Rattle.cl_tight.specs.TightFindings.{tight_findings_of};
-ghost use Rattle.cl_margin.specs.Inner.Searches.{holds, FitsItem, IsItemOf, IsMetItem, KeepsTask, KeepsChain, KeepsItem, IsNewlyBroken, IsMarginSearch};
-ghost use Rattle.cl_margin.specs.Inner.Touched.{IsOfModel};
-ghost use Rattle.cl_margin.specs.Inner.Trials.{IsTrialOf, IsTrialAt, IsStanding};
 
 use crate::allowed::{Allowed, chain_of};
 use crate::answer::{Breaks, Margin};

@@ -1,19 +1,12 @@
 //! A model whose execution times have grown, and what is found of it. Times are in ticks.
 ghost use Rattle.std.specs.Prelude.{◌≡◌, ◌==◌, ℕ, ◌+◌, ◌<◌, ◌≤◌, nat_lt, true, length, IfOk, IfSome, MatchOption};
-ghost use Rattle.cl_model.specs.Groups.{IsGroupOf};
-ghost use Rattle.cl_model.specs.Ranges.{IsInRange};
-ghost use Rattle.cl_runs.specs.SystemOf.{system_of};
-ghost use Rattle.cl_runs.specs.TaskTiming.{timing_at};
-ghost use Rattle.cl_resp.specs.Question.{tight_question_of};
-ghost use Rattle.cl_resp.specs.Response.{busy_window};
+ghost use Rattle.cl_model.specs.{Groups.IsGroupOf, Ranges.IsInRange};
+ghost use Rattle.cl_runs.specs.{SystemOf.system_of, TaskTiming.timing_at};
+ghost use Rattle.cl_resp.specs.{Question.tight_question_of, Response.busy_window};
 ghost use Rattle.cl_bound.specs.Answers.{answer_at, is_late};
 ghost use Rattle.cl_analyse.specs.ChainAnswers.{chain_answer_at};
-ghost use Rattle.cl_tight.specs.TightAnswers.{tight_answers_of};
-ghost use Rattle.cl_tight.specs.TightFindings.{tight_chain_answers_of};
-ghost use Rattle.cl_margin.specs.Grown.{grown_by, grown};
-ghost use Rattle.cl_margin.specs.Inner.Touched.{IsOfModel};
-ghost use Rattle.cl_margin.specs.Inner.Trials.{AreCyclesOf, IsTrialOf, IsTrialAt, with_percent, IsStanding, with_answer, Forgets, is_touched_task, IsTimingAt};
-ghost use Rattle.cl_margin.specs.declared.whose.Whose.TheVariants.{EveryTask, OneTask};
+ghost use Rattle.cl_tight.specs.{TightAnswers.tight_answers_of, TightFindings.tight_chain_answers_of};
+ghost use Rattle.cl_margin.specs.{Grown.{grown_by, grown}, Inner.{Touched.IsOfModel, Trials.{AreCyclesOf, IsTrialOf, IsTrialAt, with_percent, IsStanding, with_answer, Forgets, is_touched_task, IsTimingAt}}, declared.whose.Whose.TheVariants.{EveryTask, OneTask}};
 ghost use Rattle.cl_tune.specs.declared.percent.TheConstants.{MOST_PERCENT};
 
 use crate::standing::Standing;

@@ -1,10 +1,8 @@
 //! Whose execution times grow, and what that can change. Times are in ticks.
 ghost use Rattle.std.specs.Prelude.{◌≡◌, ◌<◌, ◌≤◌, length, MatchBool};
 ghost use Rattle.std.specs.List.{list_all};
-ghost use Rattle.cl_model.specs.Ranges.{IsRunnableInRange, IsTaskInRange, IsInRange};
-ghost use Rattle.cl_model.specs.Validity.{IsValid};
-ghost use Rattle.cl_margin.specs.Grown.{grown, grown_greatest, grown_time};
-ghost use Rattle.cl_margin.specs.Inner.Touched.{has_whole, reaches, touches, touches_chain, IsOfModel, are_times_within, IsMostInRange};
+ghost use Rattle.cl_model.specs.{Ranges.{IsRunnableInRange, IsTaskInRange, IsInRange}, Validity.IsValid};
+ghost use Rattle.cl_margin.specs.{Grown.{grown, grown_greatest, grown_time}, Inner.Touched.{has_whole, reaches, touches, touches_chain, IsOfModel, are_times_within, IsMostInRange}};
 
 use cl_model::{MOST_TICKS, RunnableDef, TaskDef, ValidModel};
 use cl_tune::{MOST_PERCENT, scaled_time};

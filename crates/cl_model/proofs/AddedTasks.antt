@@ -5,33 +5,12 @@ use Rattle.std.specs.List.{range_with_len}
 use Rattle.std.proofs.lemmas.List.{length-map, get_or-map, map-append, length-append, length_push, get_or_append_left, take-append-le, take_all}
 use Rattle.std.proofs.lemmas.Bool.{ltb-false}
 use Rattle.std.proofs.lemmas.List.FromFn.{length-map-range_with_len}
-use Rattle.cl_model.specs.declared.group.Step.{Step}
-use Rattle.cl_model.specs.declared.groups.StepTable.{StepTable}
-use Rattle.cl_model.specs.declared.look_ups.LookUps.{LookUps}
-use Rattle.cl_model.specs.declared.look_ups.TaskTables.{TaskTables}
-use Rattle.cl_model.specs.declared.model.CoreDef.{CoreDef}
-use Rattle.cl_model.specs.declared.model.SystemModel.{SystemModel}
-use Rattle.cl_model.specs.declared.task.RunnableDef.{RunnableDef}
-use Rattle.cl_model.specs.declared.task.TaskDef.{TaskDef}
-use Rattle.cl_model.specs.declared.valid_model.ValidModel.TheInside.{Inside}
-use Rattle.cl_model.specs.ByNumber.{no_task, no_chain, core_number, core_of, stimulus_number, greatest_time, tasks_of_core_below, tasks_of_core}
-use Rattle.cl_model.specs.Changes.{with_new_task}
-use Rattle.cl_model.specs.Groups.{step_from, step_named, groups, groups_of, groups_at}
-use Rattle.cl_model.specs.Inner.LookUps.{AreNamesOf, AreTaskTablesOf, AreLookUpsOf, HasItsLookUps, RowAdded, TaskAdded}
-use Rattle.cl_model.specs.Inner.StepTable.{steps_from, AreStepsOf, StepsAdded}
-use Rattle.cl_model.specs.Named.{has_name, index_of, core_names, stimulus_names, task_names, runnable_names, all_runnables}
-use Rattle.cl_model.specs.NameSets.{names_with, AreDistinctNames, AreNew}
-use Rattle.cl_model.specs.Ranges.{IsTaskInRange}
-use Rattle.cl_model.specs.Validity.{IsValid}
-use Rattle.cl_model.proofs.ChangedChains.{last_at, last_is_added}
-use Rattle.cl_model.proofs.CoreTasks.{lists_more}
-use Rattle.cl_model.proofs.ListFacts.{maps_agree}
-use Rattle.cl_model.proofs.MovedTasks.{filter_range}
-use Rattle.cl_model.proofs.NamePlaces.{place_within, known_named, found_below, own_place}
-use Rattle.cl_model.proofs.NamesApart.{tasks_apart, runnables_pass}
-use Rattle.cl_model.proofs.NamesKnown.{core_known, stimulus_unnumbered, steps_known}
-use Rattle.cl_model.proofs.RunnableNames.{runnable_names_more, runnables_are_new, runnables_apart}
-use Rattle.cl_model.proofs.StepFacts.{steps_of_more}
+use Rattle.cl_model.specs.declared.{group.Step.Step, groups.StepTable.StepTable, look_ups.{LookUps.LookUps, TaskTables.TaskTables}, model.{CoreDef.CoreDef, SystemModel.SystemModel}, task.{RunnableDef.RunnableDef, TaskDef.TaskDef}, valid_model.ValidModel.TheInside.Inside}
+use Rattle.cl_model.specs.{ByNumber.{no_task, no_chain, core_number, core_of, stimulus_number, greatest_time, tasks_of_core_below, tasks_of_core}, Changes.with_new_task, Groups.{step_from, step_named, groups, groups_of, groups_at}, Inner.LookUps.{AreNamesOf, AreTaskTablesOf, AreLookUpsOf}}
+use Rattle.cl_model.specs.{Inner.{LookUps.{HasItsLookUps, RowAdded, TaskAdded}, StepTable.{steps_from, AreStepsOf, StepsAdded}}, Named.{has_name, index_of, core_names, stimulus_names, task_names, runnable_names, all_runnables}, NameSets.{names_with, AreDistinctNames, AreNew}}
+use Rattle.cl_model.specs.{Ranges.IsTaskInRange, Validity.IsValid}
+use Rattle.cl_model.proofs.{ChangedChains.{last_at, last_is_added}, CoreTasks.lists_more, ListFacts.maps_agree, MovedTasks.filter_range, NamePlaces.{place_within, known_named, found_below, own_place}, NamesApart.{tasks_apart, runnables_pass}, NamesKnown.{core_known, stimulus_unnumbered}}
+use Rattle.cl_model.proofs.{NamesKnown.steps_known, RunnableNames.{runnable_names_more, runnables_are_new, runnables_apart}, StepFacts.steps_of_more}
 
 -- ---- lists with one more item
 

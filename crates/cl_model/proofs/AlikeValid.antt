@@ -1,15 +1,8 @@
 -- A model that has the names and labels of a valid one is valid where all but these passes.
 use Rattle.std.proofs.Common.{◌≡◌, [], ◌∷◌, ◌∙◌}
 use Rattle.std.specs.Prelude.{◌↔◌}
-use Rattle.cl_model.specs.declared.model.SystemModel.{SystemModel}
-use Rattle.cl_model.specs.NamedAlike.{AreNamedAlike, PassesButNames}
-use Rattle.cl_model.specs.Refusals.{each}
-use Rattle.cl_model.specs.ValidNames.{name_checks, stimulus_checks}
-use Rattle.cl_model.specs.ValidTasks.{task_checks, deadline_checks}
-use Rattle.cl_model.specs.Validity.{IsValid, chain_check, requirement_check, refusals_of}
-use Rattle.cl_model.proofs.NamedAlike.{names_stay, chains_stay, requirements_stay}
-use Rattle.cl_model.proofs.NoRefusals.{none_in_order}
-use Rattle.cl_model.proofs.PassedChecks.{names_pass, stimuli_pass, tasks_pass, deadlines_pass, chains_pass, requirements_pass}
+use Rattle.cl_model.specs.{declared.model.SystemModel.SystemModel, NamedAlike.{AreNamedAlike, PassesButNames}, Refusals.each, ValidNames.{name_checks, stimulus_checks}, ValidTasks.{task_checks, deadline_checks}, Validity.{IsValid, chain_check, requirement_check, refusals_of}}
+use Rattle.cl_model.proofs.{NamedAlike.{names_stay, chains_stay, requirements_stay}, NoRefusals.none_in_order, PassedChecks.{names_pass, stimuli_pass, tasks_pass, deadlines_pass, chains_pass, requirements_pass}}
 
 module _ (old new : SystemModel) (valid : IsValid old) (alike : AreNamedAlike old new) where
   accepted : PassesButNames new → refusals_of new ≡ []

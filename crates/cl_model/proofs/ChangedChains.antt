@@ -3,20 +3,9 @@ use Rattle.std.proofs.Common.{◌≡◌, ℕ, ◌-◌, ◌<◌, true, false, Lis
 use Rattle.std.specs.Prelude.{All, cond, remove}
 use Rattle.indexmap.proofs.SetLemmas.{map-remove}
 use Rattle.std.proofs.lemmas.List.{length-map, map-append, length_push, get_or-append_right, take-append-le, take_all}
-use Rattle.cl_model.specs.declared.chain.ChainDef.{ChainDef}
-use Rattle.cl_model.specs.declared.look_ups.LookUps.{LookUps}
-use Rattle.cl_model.specs.declared.model.SystemModel.{SystemModel}
-use Rattle.cl_model.specs.ByNumber.{no_chain}
-use Rattle.cl_model.specs.Changes.{with_new_chain, without_chain}
-use Rattle.cl_model.specs.Groups.{groups, groups_of}
-use Rattle.cl_model.specs.Named.{has_name, chain_names}
-use Rattle.cl_model.specs.NameSets.{names_with, AreDistinctNames}
-use Rattle.cl_model.specs.Inner.LookUps.{AreNamesOf, AreLookUpsOf, HasItsLookUps, ChainAdded, ChainDropped}
-use Rattle.cl_model.specs.Inner.StepTable.{step_in}
-use Rattle.cl_model.specs.Validity.{IsValid}
-use Rattle.cl_model.proofs.GroupFacts.{groups_found}
-use Rattle.cl_model.proofs.NamesApart.{chains_apart}
-use Rattle.cl_model.proofs.NamesKnown.{steps_known}
+use Rattle.cl_model.specs.{declared.{chain.ChainDef.ChainDef, look_ups.LookUps.LookUps, model.SystemModel.SystemModel}, ByNumber.no_chain, Changes.{with_new_chain, without_chain}, Groups.{groups, groups_of}, Named.{has_name, chain_names}, NameSets.{names_with, AreDistinctNames}}
+use Rattle.cl_model.specs.{Inner.{LookUps.{AreNamesOf, AreLookUpsOf, HasItsLookUps, ChainAdded, ChainDropped}, StepTable.step_in}, Validity.IsValid}
+use Rattle.cl_model.proofs.{GroupFacts.groups_found, NamesApart.chains_apart, NamesKnown.steps_known}
 
 -- the last item of a list
 pub last_at : {X : Type 0} (xs : List X) (x d : X) → get_or (xs ++ x ∷ []) (length xs) d ≡ x

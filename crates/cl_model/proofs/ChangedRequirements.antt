@@ -4,21 +4,9 @@ use Rattle.std.specs.Prelude.{remove}
 use Rattle.indexmap.proofs.SetLemmas.{map-remove}
 use Rattle.std.proofs.lemmas.List.{map-append}
 use Rattle.std.proofs.Math.Seq.{map-set_same}
-use Rattle.cl_model.specs.declared.chain.RequirementDef.{RequirementDef}
-use Rattle.cl_model.specs.declared.look_ups.LookUps.{LookUps}
-use Rattle.cl_model.specs.declared.look_ups.SectionNames.{SectionNames}
-use Rattle.cl_model.specs.declared.model.SystemModel.{SystemModel}
-use Rattle.cl_model.specs.declared.valid_model.ValidModel.TheInside.{Inside}
-use Rattle.cl_model.specs.ByNumber.{no_requirement, requirement_at}
-use Rattle.cl_model.specs.Changes.{with_requirement, with_new_requirement, without_requirement}
-use Rattle.cl_model.specs.Groups.{groups_of}
-use Rattle.cl_model.specs.Inner.LookUps.{AreLookUpsOf, HasItsLookUps}
-use Rattle.cl_model.specs.Named.{requirement_names}
-use Rattle.cl_model.specs.NameSets.{names_with, AreDistinctNames}
-use Rattle.cl_model.specs.Validity.{IsValid}
-use Rattle.cl_model.proofs.ChangedChains.{last_is_added}
-use Rattle.cl_model.proofs.KeptLookUps.{stands_beside}
-use Rattle.cl_model.proofs.NamesApart.{requirements_apart}
+use Rattle.cl_model.specs.{declared.{chain.RequirementDef.RequirementDef, look_ups.{LookUps.LookUps, SectionNames.SectionNames}, model.SystemModel.SystemModel, valid_model.ValidModel.TheInside.Inside}, ByNumber.{no_requirement, requirement_at}, Changes.with_requirement}
+use Rattle.cl_model.specs.{Changes.{with_new_requirement, without_requirement}, Groups.groups_of, Inner.LookUps.{AreLookUpsOf, HasItsLookUps}, Named.requirement_names, NameSets.{names_with, AreDistinctNames}, Validity.IsValid}
+use Rattle.cl_model.proofs.{ChangedChains.last_is_added, KeptLookUps.stands_beside, NamesApart.requirements_apart}
 
 abbrev name_of : RequirementDef → List ℕ
 name_of requirement = requirement.name

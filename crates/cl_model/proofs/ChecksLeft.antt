@@ -5,32 +5,15 @@ use Rattle.std.specs.List.{list_any}
 use Rattle.std.specs.Option.{option_map, option_and_then}
 use Rattle.std.proofs.lemmas.List.{append-nil}
 use Rattle.std.proofs.lemmas.Option.{slice_get-map}
-use Rattle.cl_model.specs.declared.limits.TheConstants.{MOST_RUNNABLES_OF_MODEL}
-use Rattle.cl_model.specs.declared.model.SystemModel.{SystemModel}
-use Rattle.cl_model.specs.declared.refusal.Code.TheVariants.{M29, M30, M31, M35, M41}
-use Rattle.cl_model.specs.declared.refusal.Refusal.{Refusal}
-use Rattle.cl_model.specs.declared.stimulus.StimulusDef.{StimulusDef}
-use Rattle.cl_model.specs.declared.task.RunnableDef.{RunnableDef}
-use Rattle.cl_model.specs.declared.task.TaskDef.{TaskDef}
-use Rattle.cl_model.specs.declared.place.Place.{Place}
+use Rattle.cl_model.specs.declared.{limits.TheConstants.MOST_RUNNABLES_OF_MODEL, model.SystemModel.SystemModel, refusal.{Code.TheVariants.{M29, M30, M31, M35, M41}, Refusal.Refusal}, stimulus.StimulusDef.StimulusDef, task.{RunnableDef.RunnableDef, TaskDef.TaskDef}, place.Place.Place}
+use Rattle.cl_model.specs.{ByNumber.{no_task, no_runnable}, Named.{same_name, has_name, index_of, core_names, stimulus_names, label_names, is_some_and, kind_named, tasks_on, all_runnables, labels_written}, NamedAlike.{named_runnable, named_task, AreNamedAlike}, Place.{entry_of, at_key}}
+use Rattle.cl_model.specs.{Place.at_sub, Refusals.{when, unless, in_order, each}, ValidNames.{name_checks, stimulus_checks}, ValidTasks.{task_key, core_check, stimulus_check, priority_check, late_check, release_check, room_check, empty_check, naming_checks, times_check, reads_check}}
+use Rattle.cl_model.specs.{ValidTasks.{writes_check, twice_check, contest_check, runnable_checks, body_check, body_checks, count_check, task_check, task_checks, spans_too_many, is_outpaced_by, deadline_check, deadline_checks}, Timing.deadline_under, Validity.{IsValid, refusals_of}}
+use Rattle.cl_model.specs.Validity.{chain_check, requirement_check}
 use Rattle.cl_model.specs.declared.place.Part.TheVariants as part
 use Rattle.cl_model.specs.declared.place.Key.TheVariants as key
-use Rattle.cl_model.specs.ByNumber.{no_task, no_runnable}
-use Rattle.cl_model.specs.Named.{same_name, has_name, index_of, core_names, stimulus_names, label_names, is_some_and, kind_named, tasks_on, all_runnables, labels_written}
-use Rattle.cl_model.specs.NamedAlike.{named_runnable, named_task, AreNamedAlike}
-use Rattle.cl_model.specs.Place.{entry_of, at_key, at_sub}
-use Rattle.cl_model.specs.Refusals.{when, unless, in_order, each}
-use Rattle.cl_model.specs.ValidNames.{name_checks, stimulus_checks}
-use Rattle.cl_model.specs.ValidTasks.{task_key, core_check, stimulus_check, priority_check, late_check, release_check, room_check, empty_check, naming_checks, times_check, reads_check, writes_check}
-use Rattle.cl_model.specs.ValidTasks.{twice_check, contest_check, runnable_checks, body_check, body_checks, count_check, task_check, task_checks, spans_too_many, is_outpaced_by, deadline_check, deadline_checks}
-use Rattle.cl_model.specs.Timing.{deadline_under}
-use Rattle.cl_model.specs.Validity.{IsValid, refusals_of, chain_check, requirement_check}
-use Rattle.cl_model.proofs.NoRefusals.{all_none}
-use Rattle.cl_model.proofs.PassedChecks.{names_pass, tasks_pass, deadlines_pass, chains_pass, requirements_pass}
-use Rattle.cl_model.proofs.Refused.{each_none}
-use Rattle.cl_model.proofs.ListFacts.{list_any-map}
-use Rattle.cl_model.proofs.EachFacts.{each_alike}
-use Rattle.cl_model.proofs.NamedAlike.{at_same, length_same, take_same, written_same, tasks_long, first_runnables, own_same, names_stay, chains_stay, requirements_stay}
+use Rattle.cl_model.proofs.{NoRefusals.all_none, PassedChecks.{names_pass, tasks_pass, deadlines_pass, chains_pass, requirements_pass}, Refused.each_none, ListFacts.list_any-map, EachFacts.each_alike, NamedAlike.{at_same, length_same, take_same, written_same, tasks_long, first_runnables}}
+use Rattle.cl_model.proofs.NamedAlike.{own_same, names_stay, chains_stay, requirements_stay}
 
 -- ---- the runnables of a task
 

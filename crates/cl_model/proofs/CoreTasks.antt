@@ -9,20 +9,9 @@ use Rattle.std.proofs.lemmas.List.Elements.{All-filter}
 use Rattle.std.proofs.lemmas.List.Filters.{length-filter_more}
 use Rattle.std.proofs.lemmas.List.FromFn.{length-range_with_len, get_or-range_with_len, length-map-range_with_len, get_or-map-range_with_len, filter_of_map_range_with_len_more}
 use Rattle.std.proofs.lemmas.Simd.{splat_is_map}
-use Rattle.cl_model.specs.declared.limits.TheConstants.{MOST_DISTANCES, MOST_TASKS_OF_CORE}
-use Rattle.cl_model.specs.declared.model.SystemModel.{SystemModel}
-use Rattle.cl_model.specs.declared.task.TaskDef.{TaskDef}
-use Rattle.cl_model.specs.Named.{same_name, index_of, is_some_and, core_names, kind_named, tasks_on}
-use Rattle.cl_model.specs.ByNumber.{no_stimulus, no_task, task_at, core_number, core_of, stimulus_of, deadline_of, jitter_of, tasks_of_core_below, tasks_of_core}
-use Rattle.cl_model.specs.Timing.{least_distance, deadline_under}
-use Rattle.cl_model.specs.ValidTasks.{spans_too_many, is_outpaced_by, deadline_check}
-use Rattle.cl_model.specs.Validity.{IsValid}
-use Rattle.cl_model.proofs.NamePlaces.{known_named}
-use Rattle.cl_model.proofs.Refused.{when_none, each_none}
-use Rattle.cl_model.proofs.NamesKnown.{core_known, stimulus_known}
-use Rattle.cl_model.proofs.PassedChecks.{deadlines_pass}
-use Rattle.cl_model.proofs.ValidTasks.{some_fails, other_priorities, room_left}
-use Rattle.cl_model.proofs.ListFacts.{same_tests}
+use Rattle.cl_model.specs.{declared.{limits.TheConstants.{MOST_DISTANCES, MOST_TASKS_OF_CORE}, model.SystemModel.SystemModel, task.TaskDef.TaskDef}, Named.{same_name, index_of, is_some_and, core_names, kind_named, tasks_on}, ByNumber.{no_stimulus, no_task, task_at, core_number, core_of}}
+use Rattle.cl_model.specs.{ByNumber.{stimulus_of, deadline_of, jitter_of, tasks_of_core_below, tasks_of_core}, Timing.{least_distance, deadline_under}, ValidTasks.{spans_too_many, is_outpaced_by, deadline_check}, Validity.IsValid}
+use Rattle.cl_model.proofs.{NamePlaces.known_named, Refused.{when_none, each_none}, NamesKnown.{core_known, stimulus_known}, PassedChecks.deadlines_pass, ValidTasks.{some_fails, other_priorities, room_left}, ListFacts.same_tests}
 
 -- ---- the lists of the tasks of each core
 

@@ -10,32 +10,12 @@ use Rattle.std.proofs.lemmas.List.Elements.{All-nil, All-cons, All-map, filter-a
 use Rattle.std.proofs.lemmas.List.Folds.{length-flat_map-take}
 use Rattle.std.proofs.lemmas.List.FromFn.{length-map-range_with_len}
 use Rattle.std.proofs.lemmas.Simd.{map-map}
-use Rattle.cl_model.specs.declared.group.Group.{Group}
-use Rattle.cl_model.specs.declared.group.Step.{Step}
-use Rattle.cl_model.specs.declared.limits.TheConstants.{MOST_RUNNABLES_OF_MODEL}
-use Rattle.cl_model.specs.declared.look_ups.LookUps.{LookUps}
-use Rattle.cl_model.specs.declared.model.SystemModel.{SystemModel}
-use Rattle.cl_model.specs.declared.task.RunnableDef.{RunnableDef}
-use Rattle.cl_model.specs.declared.task.TaskDef.{TaskDef}
-use Rattle.cl_model.specs.declared.valid_model.ValidModel.TheInside.{Inside}
-use Rattle.cl_model.specs.ByNumber.{no_task, no_runnable, no_chain, chain_at, task_at, runnable_at, core_number, core_of, stimulus_number, greatest_time, tasks_of_core_below, tasks_of_core}
-use Rattle.cl_model.specs.Changes.{without_task}
-use Rattle.cl_model.specs.Groups.{step_named, is_inner, group_of_step, groups_from, groups, groups_of, groups_at, IsStepOf}
-use Rattle.cl_model.specs.Inner.LookUps.{AreNamesOf, HasItsLookUps, HasRow, TaskDropped}
-use Rattle.cl_model.specs.Inner.StepTable.{steps_in, steps_from, HasSteps}
-use Rattle.cl_model.specs.TaskNumbers.{number_without, step_without, group_without}
-use Rattle.cl_model.specs.Named.{has_name, runnable_names, all_runnables}
+use Rattle.cl_model.specs.{declared.{group.{Group.Group, Step.Step}, limits.TheConstants.MOST_RUNNABLES_OF_MODEL, look_ups.LookUps.LookUps, model.SystemModel.SystemModel, task.{RunnableDef.RunnableDef, TaskDef.TaskDef}, valid_model.ValidModel.TheInside.Inside}, ByNumber.no_task}
+use Rattle.cl_model.specs.{ByNumber.{no_runnable, no_chain, chain_at, task_at, runnable_at, core_number, core_of, stimulus_number, greatest_time, tasks_of_core_below, tasks_of_core}, Changes.without_task, Groups.{step_named, is_inner, group_of_step, groups_from, groups, groups_of}}
+use Rattle.cl_model.specs.{Groups.{groups_at, IsStepOf}, Inner.{LookUps.{AreNamesOf, HasItsLookUps, HasRow, TaskDropped}, StepTable.{steps_in, steps_from, HasSteps}}, TaskNumbers.{number_without, step_without, group_without}, Named.{has_name, runnable_names, all_runnables}}
 use Rattle.cl_model.specs.Validity.{IsValid}
-use Rattle.cl_model.proofs.AddedTasks.{maps_agree_on}
-use Rattle.cl_model.proofs.CoreTasks.{below_known}
-use Rattle.cl_model.proofs.ListFacts.{maps_agree}
-use Rattle.cl_model.proofs.MovedTasks.{filter_range, above, others, lists_of_others, is_listed, lists_out}
-use Rattle.cl_model.proofs.NamesKnown.{steps_known}
-use Rattle.cl_model.proofs.NumberFacts.{kept_number, moved_number, same_numbers}
-use Rattle.cl_model.proofs.Removals.{stood_at}
-use Rattle.cl_model.proofs.StepFacts.{step_stands_in, step_has_name, length-steps_from}
-use Rattle.cl_model.proofs.StepsApart.{own_step}
-use Rattle.cl_model.proofs.ValidTasks.{few_runnables}
+use Rattle.cl_model.proofs.{AddedTasks.maps_agree_on, CoreTasks.below_known, ListFacts.maps_agree, MovedTasks.{filter_range, above, others, lists_of_others, is_listed, lists_out}, NamesKnown.steps_known, NumberFacts.{kept_number, moved_number, same_numbers}, Removals.stood_at}
+use Rattle.cl_model.proofs.{StepFacts.{step_stands_in, step_has_name, length-steps_from}, StepsApart.own_step, ValidTasks.few_runnables}
 
 -- ---- lists without a range of their items
 

@@ -1,8 +1,7 @@
 -- Checks of lists, item by item.
 use Rattle.std.proofs.Common.{◌≡◌, ℕ, zero, suc, ◌+◌, ◌<◌, List, [], ◌∷◌, ◌++◌, length, get_or, refl, sym, ap, ◌∙◌, arith}
 use Rattle.std.proofs.lemmas.List.{append-nil}
-use Rattle.cl_model.specs.declared.refusal.Refusal.{Refusal}
-use Rattle.cl_model.specs.Refusals.{each_from, each}
+use Rattle.cl_model.specs.{declared.refusal.Refusal.Refusal, Refusals.{each_from, each}}
 
 -- checks that agree item by item agree on the whole lists
 each_from_alike : {X Y : Type 0} (f : ℕ → X → List Refusal) (g : ℕ → Y → List Refusal) (xs : List X) (ys : List Y) (n : ℕ) (c : X) (d : Y) → length xs ≡ length ys

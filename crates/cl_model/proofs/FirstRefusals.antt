@@ -2,11 +2,7 @@
 use Rattle.std.proofs.Common.{◌≡◌, ℕ, suc, ◌+◌, ◌<◌, ◌≤◌, List, [], ◌∷◌, ◌++◌, length, get_or, drop, Some, Result, Ok, Err, refl, sym, ap, ◌∙◌, arith, drop-cons}
 use Rattle.std.proofs.lemmas.Grind.{common_steps}
 use Rattle.std.proofs.lemmas.List.{drop_all}
-use Rattle.cl_model.specs.declared.model_fault.ModelFault.{ModelFault}
-use Rattle.cl_model.specs.declared.model_fault.ModelFault.TheVariants.{Refused, NoMemory}
-use Rattle.cl_model.specs.declared.refusal.Refusal.{Refusal}
-use Rattle.cl_model.specs.Answers.{IsFaultOf, Answers, Gives}
-use Rattle.cl_model.specs.Refusals.{each_from, each, first, answer}
+use Rattle.cl_model.specs.{declared.{model_fault.ModelFault.{ModelFault, TheVariants.{Refused, NoMemory}}, refusal.Refusal.Refusal}, Answers.{IsFaultOf, Answers, Gives}, Refusals.{each_from, each, first, answer}}
 use Rattle.cl_model.proofs.Refused.{first_with_more}
 
 -- the fault of a list is one of any list that begins with it

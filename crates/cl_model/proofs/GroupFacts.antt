@@ -4,20 +4,9 @@ use Rattle.std.specs.Prelude.{All}
 use Rattle.std.proofs.lemmas.Bool.{ltb-true, ltb-false, eqb-true}
 use Rattle.std.proofs.lemmas.List.{take_more, map-append, length-map, get_or_past}
 use Rattle.std.proofs.lemmas.List.Elements.{All-nil, All-cons, All-map, All-same}
-use Rattle.cl_model.specs.declared.chain.ChainDef.{ChainDef}
-use Rattle.cl_model.specs.declared.group.Group.{Group}
-use Rattle.cl_model.specs.declared.group.Step.{Step}
-use Rattle.cl_model.specs.declared.groups.StepTable.{StepTable}
-use Rattle.cl_model.specs.declared.limits.TheConstants.{MOST_STEPS}
-use Rattle.cl_model.specs.declared.model.SystemModel.{SystemModel}
-use Rattle.cl_model.specs.Groups.{step_named, steps_of, is_inner, group_of_step, groups_from, groups, groups_of, groups_at, IsGroupOf, IsStepOf}
-use Rattle.cl_model.specs.Named.{has_name, runnable_names, all_runnables}
-use Rattle.cl_model.specs.ByNumber.{no_chain, chain_at}
-use Rattle.cl_model.specs.Inner.StepTable.{step_in, AreStepsOf}
-use Rattle.cl_model.specs.Validity.{IsValid}
-use Rattle.cl_model.proofs.ListFacts.{both_pass}
-use Rattle.cl_model.proofs.StepFacts.{step_in_is, step_stands_in}
-use Rattle.cl_model.proofs.NamesKnown.{chain_lengths, steps_known}
+use Rattle.cl_model.specs.{declared.{chain.ChainDef.ChainDef, group.{Group.Group, Step.Step}, groups.StepTable.StepTable, limits.TheConstants.MOST_STEPS, model.SystemModel.SystemModel}, Groups.{step_named, steps_of, is_inner, group_of_step, groups_from, groups, groups_of, groups_at}}
+use Rattle.cl_model.specs.{Groups.{IsGroupOf, IsStepOf}, Named.{has_name, runnable_names, all_runnables}, ByNumber.{no_chain, chain_at}, Inner.StepTable.{step_in, AreStepsOf}, Validity.IsValid}
+use Rattle.cl_model.proofs.{ListFacts.both_pass, StepFacts.{step_in_is, step_stands_in}, NamesKnown.{chain_lengths, steps_known}}
 
 -- ---- what is kept for a chain
 

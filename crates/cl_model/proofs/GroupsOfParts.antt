@@ -1,9 +1,6 @@
 -- The groups of the two parts of steps that are cut where a group ends.
 use Rattle.std.proofs.Common.{◌≡◌, ℕ, zero, suc, ◌<◌, ◌≤◌, true, false, cond, List, [], ◌∷◌, ◌++◌, length, take, drop, refl, sym, ap, ◌∙◌, arith}
-use Rattle.cl_model.specs.declared.group.Group.{Group}
-use Rattle.cl_model.specs.declared.group.Step.{Step}
-use Rattle.cl_model.specs.GroupCuts.{IsCutAfter}
-use Rattle.cl_model.specs.Groups.{is_inner, group_of_step, groups_from, groups}
+use Rattle.cl_model.specs.{declared.group.{Group.Group, Step.Step}, GroupCuts.IsCutAfter, Groups.{is_inner, group_of_step, groups_from, groups}}
 
 -- the same of a group so far and the steps behind it, cut behind some of the groups
 record IsCutFrom (group : Group) (steps : List Step) (count : ℕ) (made : List Group) : Type 0 where

@@ -6,30 +6,12 @@ use Rattle.std.proofs.lemmas.List.{length-map, get_or-map, get_or_default, get_o
 use Rattle.std.proofs.lemmas.List.Sums.{sum_by-set}
 use Rattle.std.proofs.lemmas.Simd.{map-map}
 use Rattle.std.proofs.Math.Seq.{map-set_same}
-use Rattle.cl_model.specs.declared.changes.TaskPriority.{TaskPriority}
-use Rattle.cl_model.specs.declared.chain.ChainDef.{ChainDef}
-use Rattle.cl_model.specs.declared.group.Step.{Step}
-use Rattle.cl_model.specs.declared.groups.StepTable.{StepTable}
-use Rattle.cl_model.specs.declared.look_ups.LookUps.{LookUps}
-use Rattle.cl_model.specs.declared.look_ups.SectionNames.{SectionNames}
-use Rattle.cl_model.specs.declared.model.CoreDef.{CoreDef}
-use Rattle.cl_model.specs.declared.model.SystemModel.{SystemModel}
-use Rattle.cl_model.specs.declared.stimulus.StimulusDef.{StimulusDef}
-use Rattle.cl_model.specs.declared.stimulus.StimulusKind.{StimulusKind}
-use Rattle.cl_model.specs.declared.task.AccessKind.{AccessKind}
-use Rattle.cl_model.specs.declared.task.RunnableDef.{RunnableDef}
-use Rattle.cl_model.specs.declared.task.TaskDef.{TaskDef}
-use Rattle.cl_model.specs.declared.valid_model.ValidModel.TheInside.{Inside}
-use Rattle.cl_model.specs.ByNumber.{no_task, task_at, no_runnable, runnable_at, core_number, stimulus_number, core_of, greatest_time, tasks_of_core_below, tasks_of_core}
-use Rattle.cl_model.specs.Changes.{with_task, with_runnable, with_range, with_whole, with_kind, stimulus_at, no_stimulus_def, with_deadline, with_priority, with_priorities, with_access}
-use Rattle.cl_model.specs.Groups.{step_from, step_named, groups, groups_of, IsStepOf}
-use Rattle.cl_model.specs.Ranges.{IsTaskInRange}
-use Rattle.cl_model.specs.Named.{index_of, core_names, stimulus_names, task_names, requirement_names, runnable_names, all_runnables}
-use Rattle.cl_model.specs.Inner.LookUps.{AreNamesOf, AreLookUpsOf, HasItsLookUps}
-use Rattle.cl_model.specs.Inner.StepTable.{steps_in, steps_from, AreStepsOf}
-use Rattle.cl_model.specs.Validity.{IsValid}
-use Rattle.cl_model.proofs.CoreTasks.{below_more}
-use Rattle.cl_model.proofs.ListFacts.{maps_agree}
+use Rattle.cl_model.specs.declared.{changes.TaskPriority.TaskPriority, chain.ChainDef.ChainDef, group.Step.Step, groups.StepTable.StepTable, look_ups.{LookUps.LookUps, SectionNames.SectionNames}, model.{CoreDef.CoreDef, SystemModel.SystemModel}, stimulus.StimulusDef.StimulusDef}
+use Rattle.cl_model.specs.{declared.{stimulus.StimulusKind.StimulusKind, task.{AccessKind.AccessKind, RunnableDef.RunnableDef, TaskDef.TaskDef}, valid_model.ValidModel.TheInside.Inside}, ByNumber.{no_task, task_at, no_runnable, runnable_at, core_number, stimulus_number, core_of}}
+use Rattle.cl_model.specs.{ByNumber.{greatest_time, tasks_of_core_below, tasks_of_core}, Changes.{with_task, with_runnable, with_range, with_whole, with_kind, stimulus_at, no_stimulus_def, with_deadline, with_priority, with_priorities, with_access}, Groups.{step_from, step_named, groups}}
+use Rattle.cl_model.specs.{Groups.{groups_of, IsStepOf}, Ranges.IsTaskInRange, Named.{index_of, core_names, stimulus_names, task_names, requirement_names, runnable_names, all_runnables}, Inner.{LookUps.{AreNamesOf, AreLookUpsOf, HasItsLookUps}, StepTable.{steps_in, steps_from}}}
+use Rattle.cl_model.specs.{Inner.StepTable.AreStepsOf, Validity.IsValid}
+use Rattle.cl_model.proofs.{CoreTasks.below_more, ListFacts.maps_agree}
 
 -- ---- the names of the runnables of each task, and what rests on them
 

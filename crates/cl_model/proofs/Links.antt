@@ -6,28 +6,13 @@ use Rattle.std.specs.Option.{option_map, option_and_then}
 use Rattle.std.proofs.lemmas.Bool.{false≢true}
 use Rattle.std.proofs.lemmas.Option.{slice_get-get_or}
 use Rattle.std.proofs.Math.ListN.{length-map}
-use Rattle.cl_model.specs.declared.chain.ChainDef.{ChainDef}
-use Rattle.cl_model.specs.declared.chain.RequirementDef.{RequirementDef}
-use Rattle.cl_model.specs.declared.model.SystemModel.{SystemModel}
+use Rattle.cl_model.specs.{declared.{chain.{ChainDef.ChainDef, RequirementDef.RequirementDef}, model.SystemModel.SystemModel, stimulus.{StimulusDef.StimulusDef, StimulusKind.StimulusKind}, task.{RunnableDef.RunnableDef, TaskDef.TaskDef}}, ByNumber.{no_task, no_chain, no_stimulus, task_at}}
+use Rattle.cl_model.specs.{ByNumber.{chain_at, core_of, stimulus_of, task_named, chain_named}, KnownNames.{AreFound, HasKnownParts, runnable_of_step, IsLinked}, Named.{has_name, index_of, is_some_and, core_names, stimulus_names, label_names, chain_names, kind_named, runnable_named}}
+use Rattle.cl_model.specs.{Named.{runnable_names, all_runnables}, Place.{entry_of, at_key}, Refusals.each, Validity.{IsValid, step_of, hop_check, lengths_check, step_check, chain_check, requirement_check}}
 use Rattle.cl_model.specs.declared.place.Key.TheVariants as key
 use Rattle.cl_model.specs.declared.place.Part.TheVariants as part
-use Rattle.cl_model.specs.declared.stimulus.StimulusDef.{StimulusDef}
-use Rattle.cl_model.specs.declared.stimulus.StimulusKind.{StimulusKind}
-use Rattle.cl_model.specs.declared.task.RunnableDef.{RunnableDef}
-use Rattle.cl_model.specs.declared.task.TaskDef.{TaskDef}
-use Rattle.cl_model.specs.ByNumber.{no_task, no_chain, no_stimulus, task_at, chain_at, core_of, stimulus_of, task_named, chain_named}
-use Rattle.cl_model.specs.KnownNames.{AreFound, HasKnownParts, runnable_of_step, IsLinked}
-use Rattle.cl_model.specs.Named.{has_name, index_of, is_some_and, core_names, stimulus_names, label_names, chain_names, kind_named, runnable_named, runnable_names, all_runnables}
-use Rattle.cl_model.specs.Place.{entry_of, at_key}
-use Rattle.cl_model.specs.Refusals.{each}
-use Rattle.cl_model.specs.Validity.{IsValid, step_of, hop_check, lengths_check, step_check, chain_check, requirement_check}
-use Rattle.cl_model.proofs.NamePlaces.{known_stands, found_stands, found_below, known_named, names_found, entry_found, own_entry}
-use Rattle.cl_model.proofs.NamesApart.{cores_apart, labels_apart, stimuli_apart, tasks_apart, chains_apart}
-use Rattle.cl_model.proofs.NamesKnown.{chain_lengths, steps_known, core_known, stimulus_known}
-use Rattle.cl_model.proofs.NoRefusals.{all_none}
-use Rattle.cl_model.proofs.PassedChecks.{chains_pass, requirements_pass}
-use Rattle.cl_model.proofs.Refused.{when_none, unless_none, each_none}
-use Rattle.cl_model.proofs.StepFacts.{runnable_found}
+use Rattle.cl_model.proofs.{NamePlaces.{known_stands, found_stands, found_below, known_named, names_found, entry_found, own_entry}, NamesApart.{cores_apart, labels_apart, stimuli_apart, tasks_apart, chains_apart}, NamesKnown.{chain_lengths, steps_known, core_known, stimulus_known}}
+use Rattle.cl_model.proofs.{NoRefusals.all_none, PassedChecks.{chains_pass, requirements_pass}, Refused.{when_none, unless_none, each_none}, StepFacts.runnable_found}
 
 -- ---- stimuli
 

@@ -4,10 +4,7 @@ use Rattle.std.specs.List.{flat_map}
 use Rattle.std.proofs.lemmas.Bool.{cases_lt, cond-true, cond-false, ltb-true, lt-ltb, eqb-true, eq-eqb, false_from_ne_true}
 use Rattle.std.proofs.lemmas.List.{get_or_append_left, length_push}
 use Rattle.std.proofs.Math.Seq.{get_or-append_seam}
-use Rattle.cl_model.specs.declared.group.Group.{Group}
-use Rattle.cl_model.specs.declared.group.Step.{Step}
-use Rattle.cl_model.specs.Groups.{is_inner, group_of_step, groups_from, groups, no_step, step_at, group_at}
-use Rattle.cl_model.specs.MaximalRuns.{IsInnerHop, first_step, last_step, IsGroupOfPiece, piece_at, AreMaximalRuns}
+use Rattle.cl_model.specs.{declared.group.{Group.Group, Step.Step}, Groups.{is_inner, group_of_step, groups_from, groups, no_step, step_at, group_at}, MaximalRuns.{IsInnerHop, first_step, last_step, IsGroupOfPiece, piece_at, AreMaximalRuns}}
 use Rattle.cl_model.proofs.ListFacts.{both_pass, both_true}
 
 -- a group with one more step at its end

@@ -9,20 +9,9 @@ use Rattle.std.proofs.lemmas.List.Elements.{All-cons, All-filter, filter-append}
 use Rattle.std.proofs.lemmas.List.FromFn.{length-range_with_len, get_or-range_with_len, length-map-range_with_len, get_or-map-range_with_len}
 use Rattle.std.proofs.lemmas.List.Sums.{sum_by-cons}
 use Rattle.std.proofs.Math.Seq.{map-set_same}
-use Rattle.cl_model.specs.declared.look_ups.TaskTables.{TaskTables}
-use Rattle.cl_model.specs.declared.model.CoreDef.{CoreDef}
-use Rattle.cl_model.specs.declared.model.SystemModel.{SystemModel}
-use Rattle.cl_model.specs.declared.task.TaskDef.{TaskDef}
-use Rattle.cl_model.specs.declared.valid_model.ValidModel.TheInside.{Inside}
-use Rattle.cl_model.specs.Named.{has_name, index_of, core_names}
-use Rattle.cl_model.specs.ByNumber.{no_task, task_at, core_number, core_of, stimulus_number, greatest_time, tasks_of_core_below, tasks_of_core}
-use Rattle.cl_model.specs.Changes.{with_place}
-use Rattle.cl_model.specs.Inner.LookUps.{AreTaskTablesOf, place_among, beside, IsListed, lists_without, lists_with, TaskMoved, HasItsLookUps}
-use Rattle.cl_model.specs.Validity.{IsValid}
-use Rattle.cl_model.proofs.CoreTasks.{put_at, below_known, number_kept}
-use Rattle.cl_model.proofs.NamePlaces.{found_below}
-use Rattle.cl_model.proofs.NamesKnown.{core_known, core_within}
-use Rattle.cl_model.proofs.KeptLookUps.{names_in, steps_stay, groups_stay}
+use Rattle.cl_model.specs.{declared.{look_ups.TaskTables.TaskTables, model.{CoreDef.CoreDef, SystemModel.SystemModel}, task.TaskDef.TaskDef, valid_model.ValidModel.TheInside.Inside}, Named.{has_name, index_of, core_names}, ByNumber.{no_task, task_at, core_number, core_of, stimulus_number}}
+use Rattle.cl_model.specs.{ByNumber.{greatest_time, tasks_of_core_below, tasks_of_core}, Changes.with_place, Inner.LookUps.{AreTaskTablesOf, place_among, beside, IsListed, lists_without, lists_with, TaskMoved, HasItsLookUps}, Validity.IsValid}
+use Rattle.cl_model.proofs.{CoreTasks.{put_at, below_known, number_kept}, NamePlaces.found_below, NamesKnown.{core_known, core_within}, KeptLookUps.{names_in, steps_stay, groups_stay}}
 
 -- ---- lists of numbers that rise
 

@@ -6,7 +6,7 @@ use Rattle.std.specs.List.{list_any, position_or_len, prefix_len, IsDistinct}
 use Rattle.std.proofs.lemmas.Bool.{cases_lt, cond-true, false_from_ne_true, false≢true, lt-ltb}
 use Rattle.std.proofs.lemmas.Cmp.{nat_list_eq_equiv}
 use Rattle.std.proofs.lemmas.Grind.{common_steps}
-use Rattle.std.proofs.lemmas.List.{take_more, take-append-le, get_or-map, get_or-take, get_or_append_left, get_or-append_right, length-append, length-take-le}
+use Rattle.std.proofs.lemmas.List.{take-append-le, get_or-map, get_or-take, get_or_append_left, get_or-append_right, length-append, length-take-le}
 use Rattle.std.proofs.lemmas.List.Folds.{list_any_at}
 use Rattle.std.proofs.lemmas.List.Quantifiers.{position-Some}
 use Rattle.std.proofs.lemmas.List.Sums.{position_or_len_is}
@@ -14,9 +14,7 @@ use Rattle.std.proofs.lemmas.Map.Made.{AllPairs-from_IsDistinct}
 use Rattle.std.proofs.lemmas.Map.Views.{Contains-from_any, list_any-from_Contains}
 use Rattle.std.proofs.Math.ListN.{length-map}
 use Rattle.std.proofs.Math.Seq.{take-append-add}
-use Rattle.cl_model.specs.KnownNames.{AreFound}
-use Rattle.cl_model.specs.Named.{same_name, has_name, index_of}
-use Rattle.cl_model.specs.NameSets.{names_with, AreDistinctNames, AreNew}
+use Rattle.cl_model.specs.{KnownNames.AreFound, Named.{same_name, has_name, index_of}, NameSets.{AreDistinctNames, AreNew}}
 
 -- ---- names that are in a list
 
@@ -128,18 +126,6 @@ apart_behind names others apart new k within =
           ∙ ap (has_name (get_or others n [])) (ap (λ m. take m (names ++ others)) at ∙ take-append-add names others n)
           ∙ new n (omega (arith, within, behind, length-append names others))
     ]
-
--- one more name of a list without repeats
-pub take_with : (names : List (List ℕ)) (i : ℕ) → AreDistinctNames names → i < length names → names_with (get_or names i []) (take i names) ≡ take (i + 1) names
-take_with names i apart lt = rw (apart i lt) (sym (take_more names i [] lt))
-
--- the same where the names are those of entries
-pub named_more : {X : Type 0} (f : X → List ℕ) (entries : List X) (i : ℕ) (x : X) (name : List ℕ) (old new : List (List ℕ)) → AreDistinctNames (map f entries)
-    → i < length entries → x ≡ get_or entries i x → name ≡ f x → old ≡ take i (map f entries) → new ≡ names_with name old → new ≡ take (i + 1) (map f entries)
-named_more f entries i x name old new apart lt at called before after =
-    let e : name ≡ get_or (map f entries) i [] = called ∙ ap f at ∙ sym (get_or-map f entries i x [] lt) in
-    let long : i < length (map f entries) = omega (arith, length-map entries f) in
-    after ∙ ap (λ n. names_with n old) e ∙ ap (names_with (get_or (map f entries) i [])) before ∙ take_with (map f entries) i apart long
 
 -- a name that is in a list is found
 pub found_somewhere : (result : Option ℕ) (name : List ℕ) (searched names : List (List ℕ)) → is_some result ≡ has_name name searched → searched ≡ names → has_name name names ≡ true → result ≡ None → ⊥

@@ -5,24 +5,12 @@ use Rattle.std.specs.Option.{option_map, option_and_then}
 use Rattle.std.proofs.lemmas.List.{map-append, take-map, length-map, get_or-map}
 use Rattle.std.proofs.lemmas.Option.{slice_get-map}
 use Rattle.std.proofs.lemmas.Simd.{map-map}
-use Rattle.cl_model.specs.declared.model.SystemModel.{SystemModel}
-use Rattle.cl_model.specs.declared.chain.ChainDef.{ChainDef}
-use Rattle.cl_model.specs.declared.chain.RequirementDef.{RequirementDef}
-use Rattle.cl_model.specs.declared.refusal.Refusal.{Refusal}
-use Rattle.cl_model.specs.declared.task.RunnableDef.{RunnableDef}
-use Rattle.cl_model.specs.declared.task.TaskDef.{TaskDef}
+use Rattle.cl_model.specs.{declared.{model.SystemModel.SystemModel, chain.{ChainDef.ChainDef, RequirementDef.RequirementDef}, refusal.{Refusal.Refusal, Code.TheVariants.{M20, M21, M22, M23, M24, M25, M26, M44, M45, M46}}, task.{RunnableDef.RunnableDef, TaskDef.TaskDef}}, ByNumber.no_task}
+use Rattle.cl_model.specs.{ByNumber.no_chain, NamedAlike.{named_runnable, named_task, AreNamedAlike}, Named.{has_name, index_of, is_some_and, core_names, stimulus_names, label_names, task_names, chain_names, requirement_names, runnable_names, all_runnables, runnable_named, labels_written}}
+use Rattle.cl_model.specs.{Place.{entry_of, at_key, at_sub, at_spot}, Refusals.{when, unless, in_order, each}, ValidNames.{section_repeats, repeats, runnable_repeats, name_checks}, Validity.{step_of, misses_label, lengths_check, step_check, hop_check, chain_check, requirement_check}}
 use Rattle.cl_model.specs.declared.place.Part.TheVariants as part
 use Rattle.cl_model.specs.declared.place.Key.TheVariants as key
-use Rattle.cl_model.specs.declared.refusal.Code.TheVariants.{M20, M21, M22, M23, M24, M25, M26, M44, M45, M46}
-use Rattle.cl_model.specs.ByNumber.{no_task, no_chain}
-use Rattle.cl_model.specs.NamedAlike.{named_runnable, named_task, AreNamedAlike}
-use Rattle.cl_model.specs.Named.{has_name, index_of, is_some_and, core_names, stimulus_names, label_names, task_names, chain_names, requirement_names, runnable_names, all_runnables, runnable_named, labels_written}
-use Rattle.cl_model.specs.Place.{entry_of, at_key, at_sub, at_spot}
-use Rattle.cl_model.specs.Refusals.{when, unless, in_order, each}
-use Rattle.cl_model.specs.ValidNames.{section_repeats, repeats, runnable_repeats, name_checks}
-use Rattle.cl_model.specs.Validity.{step_of, misses_label, lengths_check, step_check, hop_check, chain_check, requirement_check}
-use Rattle.cl_model.proofs.EachFacts.{each_alike}
-use Rattle.cl_model.proofs.ListFacts.{maps_agree}
+use Rattle.cl_model.proofs.{EachFacts.each_alike, ListFacts.maps_agree}
 
 -- ---- lists that a map makes equal
 

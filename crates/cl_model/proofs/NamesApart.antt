@@ -1,21 +1,10 @@
 -- The names of the entries of a section are apart, and so are those of all runnables.
 use Rattle.std.proofs.Common.{◌≡◌, ℕ, List, [], ◌∷◌, get_or, take}
-use Rattle.cl_model.specs.declared.model.SystemModel.{SystemModel}
+use Rattle.cl_model.specs.{declared.{model.SystemModel.SystemModel, place.Place.Place, refusal.{Code.{Code, TheVariants.{M20, M21, M22, M23, M25, M26}}, Refusal.Refusal}}, Named.{has_name, core_names, stimulus_names, label_names, task_names, chain_names, requirement_names}}
+use Rattle.cl_model.specs.{NameSets.AreDistinctNames, Place.{entry_of, at_key}, Refusals.each, ValidNames.{repeat_check, repeats, section_repeats, runnable_repeats, name_checks}, Validity.IsValid}
 use Rattle.cl_model.specs.declared.place.Part.TheVariants as part
 use Rattle.cl_model.specs.declared.place.Key.TheVariants as key
-use Rattle.cl_model.specs.declared.place.Place.{Place}
-use Rattle.cl_model.specs.declared.refusal.Code.{Code}
-use Rattle.cl_model.specs.declared.refusal.Code.TheVariants.{M20, M21, M22, M23, M25, M26}
-use Rattle.cl_model.specs.declared.refusal.Refusal.{Refusal}
-use Rattle.cl_model.specs.Named.{has_name, core_names, stimulus_names, label_names, task_names, chain_names, requirement_names}
-use Rattle.cl_model.specs.NameSets.{AreDistinctNames}
-use Rattle.cl_model.specs.Place.{entry_of, at_key}
-use Rattle.cl_model.specs.Refusals.{each}
-use Rattle.cl_model.specs.ValidNames.{repeat_check, repeats, section_repeats, runnable_repeats, name_checks}
-use Rattle.cl_model.specs.Validity.{IsValid}
-use Rattle.cl_model.proofs.NoRefusals.{AllNone, all_none}
-use Rattle.cl_model.proofs.PassedChecks.{names_pass}
-use Rattle.cl_model.proofs.Refused.{when_none, each_none}
+use Rattle.cl_model.proofs.{NoRefusals.{AllNone, all_none}, PassedChecks.names_pass, Refused.{when_none, each_none}}
 
 -- names that don't repeat are apart
 pub repeats_none : (code : Code) (place : ℕ → Place) (names : List (List ℕ)) → repeats code place [] names ≡ [] → AreDistinctNames names

@@ -2,26 +2,15 @@
 use Rattle.std.proofs.Common.{◌≡◌, ℕ, ◌+◌, ◌<◌, true, List, [], length, get_or, refl, sym, subst, ap, ◌∙◌, arith}
 use Rattle.std.specs.Prelude.{Option, Some, None, is_some, slice_get, unwrap_or, All}
 use Rattle.std.specs.Option.{option_map, option_and_then}
-use Rattle.cl_model.specs.declared.chain.ChainDef.{ChainDef}
-use Rattle.cl_model.specs.declared.model.SystemModel.{SystemModel}
+use Rattle.cl_model.specs.{declared.{chain.ChainDef.ChainDef, model.SystemModel.SystemModel, stimulus.StimulusKind.StimulusKind, task.TaskDef.TaskDef}, Place.{entry_of, at_key}, Named.{has_name, index_of, core_names, stimulus_names, kind_named, runnable_names, all_runnables}}
+use Rattle.cl_model.specs.{ByNumber.{no_stimulus, no_task, task_at, core_of, stimulus_number, stimulus_of}, Changes.stimulus_at, Refusals.each, ValidTasks.{naming_checks, task_checks}, Validity.{IsValid, lengths_check, step_check, chain_check}}
 use Rattle.cl_model.specs.declared.place.Part.TheVariants as part
-use Rattle.cl_model.specs.declared.stimulus.StimulusKind.{StimulusKind}
-use Rattle.cl_model.specs.declared.task.TaskDef.{TaskDef}
 use Rattle.std.proofs.lemmas.Bool.{eqb-true}
 use Rattle.std.proofs.lemmas.Option.{slice_get-get_or}
 use Rattle.std.proofs.lemmas.List.{get_or_default}
 use Rattle.std.proofs.Math.ListN.{length-map}
-use Rattle.cl_model.proofs.NamePlaces.{place_within, found_below}
+use Rattle.cl_model.proofs.{NamePlaces.{place_within, found_below}, Refused.{none_before, none_behind, unless_none, each_none}, PassedChecks.{tasks_pass, chains_pass, naming_passes}}
 use Rattle.cl_model.specs.declared.place.Key.TheVariants as key
-use Rattle.cl_model.specs.Place.{entry_of, at_key}
-use Rattle.cl_model.specs.Named.{has_name, index_of, core_names, stimulus_names, kind_named, runnable_names, all_runnables}
-use Rattle.cl_model.specs.ByNumber.{no_stimulus, no_task, task_at, core_of, stimulus_number, stimulus_of}
-use Rattle.cl_model.specs.Changes.{stimulus_at}
-use Rattle.cl_model.specs.Refusals.{each}
-use Rattle.cl_model.specs.ValidTasks.{naming_checks, task_checks}
-use Rattle.cl_model.specs.Validity.{IsValid, lengths_check, step_check, chain_check}
-use Rattle.cl_model.proofs.Refused.{none_before, none_behind, unless_none, each_none}
-use Rattle.cl_model.proofs.PassedChecks.{tasks_pass, chains_pass, naming_passes}
 
 -- a chain has one label fewer than steps
 pub chain_lengths : (model : SystemModel) → IsValid model → (i : ℕ) (d : ChainDef) → i < length model.chains

@@ -1,7 +1,6 @@
 -- Lists of checks that refuse nothing, by their parts.
 use Rattle.std.proofs.Common.{◌≡◌, List, [], ◌∷◌, ◌++◌, refl, ap, ◌∙◌}
-use Rattle.cl_model.specs.declared.refusal.Refusal.{Refusal}
-use Rattle.cl_model.specs.Refusals.{in_order}
+use Rattle.cl_model.specs.{declared.refusal.Refusal.Refusal, Refusals.in_order}
 use Rattle.cl_model.proofs.Refused.{none_before, none_behind}
 
 -- none in each of the lists

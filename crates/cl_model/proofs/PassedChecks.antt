@@ -1,13 +1,7 @@
 -- The checks that a valid model has passed.
 use Rattle.std.proofs.Common.{◌≡◌, ℕ, ◌<◌, [], ◌∷◌, length, get_or}
-use Rattle.cl_model.specs.declared.model.SystemModel.{SystemModel}
-use Rattle.cl_model.specs.declared.task.TaskDef.{TaskDef}
-use Rattle.cl_model.specs.Refusals.{each}
-use Rattle.cl_model.specs.ValidNames.{name_checks, stimulus_checks}
-use Rattle.cl_model.specs.ValidTasks.{naming_checks, task_check, task_checks, deadline_checks}
-use Rattle.cl_model.specs.Validity.{IsValid, chain_check, requirement_check, refusals_of}
-use Rattle.cl_model.proofs.Refused.{none_before, each_none}
-use Rattle.cl_model.proofs.NoRefusals.{all_none}
+use Rattle.cl_model.specs.{declared.{model.SystemModel.SystemModel, task.TaskDef.TaskDef}, Refusals.each, ValidNames.{name_checks, stimulus_checks}, ValidTasks.{naming_checks, task_check, task_checks, deadline_checks}, Validity.{IsValid, chain_check, requirement_check, refusals_of}}
+use Rattle.cl_model.proofs.{Refused.{none_before, each_none}, NoRefusals.all_none}
 
 -- each part of the list of refusals is empty
 record Passed (model : SystemModel) : Type 0 where

@@ -4,31 +4,14 @@ use Rattle.std.specs.Prelude.{ℕ, is_some, unwrap_or, codes, ◌≤◌}
 use Rattle.std.specs.Str.{bytes_eq}
 use Rattle.toml.specs.Data.{Data, string, integer, float, boolean, datetime, array, table, Members}
 use Rattle.cl_model.specs.declared.limits.TheConstants.{LEAST_JOBS_OF_BURST, MOST_JOBS_OF_BURST, MOST_TICKS, MOST_REQUIRED, MOST_PRIORITY, MOST_CORES, MOST_STIMULI, MOST_LABELS, MOST_TASKS, MOST_RUNNABLES, MOST_ACCESSES, MOST_CHAINS, MOST_STEPS, MOST_HOPS, MOST_REQUIREMENTS}
-use Rattle.cl_model.specs.declared.chain.ChainDef.{ChainDef}
-use Rattle.cl_model.specs.declared.chain.RequirementDef.{RequirementDef}
-use Rattle.cl_model.specs.declared.model.SystemModel.{SystemModel}
+use Rattle.cl_model.specs.declared.{chain.{ChainDef.ChainDef, RequirementDef.RequirementDef}, model.SystemModel.SystemModel, place.Place.Place, refusal.{Code.TheVariants.{M2, M3, M4, M5}, Refusal.Refusal}, stimulus.StimulusDef.StimulusDef, task.{RunnableDef.RunnableDef, TaskDef.TaskDef}}
+use Rattle.cl_model.specs.{AreNamed.{IsRunnableNamed, IsTaskNamed, IsChainNamed, IsRequirementNamed, AreNamed}, Name.IsName, Place.{section_place, top, at_item, at_sub, at_key, at_spot}, Ranges.{IsKindInRange, IsRunnableInRange, IsTaskInRange, IsChainInRange, IsCountInRange, IsInRange}}
+use Rattle.cl_model.specs.Reading.{sections, section_checks, top_keys, is_format, is_version, version_in, document_of, model_checks, model_meaning, model_in, model_of, Checks.{a_name, an_array, a_word, a_table, found_or, meaning_of, value_at, fields_checks, field_checks, a_table_of}}
+use Rattle.cl_model.specs.Reading.{Checks.{keys_of, has_only}, Meanings.{text_in, list_of, table_of, word_if}, Tables.{core_fields, core_meaning, label_fields, label_meaning, StimulusForm, stimulus_forms, periodic_form, sporadic_form, burst_form, stimulus_fields, form_checks}}
+use Rattle.cl_model.specs.{Reading.Tables.{stimulus_entry_checks, stimulus_meaning, runnable_fields, runnable_meaning, task_fields, task_meaning, chain_fields, chain_meaning, requirement_fields, requirement_meaning}, Refusals.{unless, answer}}
 use Rattle.cl_model.specs.declared.place.Key.TheVariants as key
 use Rattle.cl_model.specs.declared.place.Part.TheVariants as part
-use Rattle.cl_model.specs.declared.place.Place.{Place}
-use Rattle.cl_model.specs.declared.refusal.Code.TheVariants.{M2, M3, M4, M5}
-use Rattle.cl_model.specs.declared.refusal.Refusal.{Refusal}
-use Rattle.cl_model.specs.declared.stimulus.StimulusDef.{StimulusDef}
-use Rattle.cl_model.specs.declared.task.RunnableDef.{RunnableDef}
-use Rattle.cl_model.specs.declared.task.TaskDef.{TaskDef}
-use Rattle.cl_model.specs.AreNamed.{IsRunnableNamed, IsTaskNamed, IsChainNamed, IsRequirementNamed, AreNamed}
-use Rattle.cl_model.specs.Name.{IsName}
-use Rattle.cl_model.specs.Place.{section_place, top, at_item, at_sub, at_key, at_spot}
-use Rattle.cl_model.specs.Ranges.{IsKindInRange, IsRunnableInRange, IsTaskInRange, IsChainInRange, IsCountInRange, IsInRange}
-use Rattle.cl_model.specs.Reading.{sections, section_checks, top_keys, is_format, is_version, version_in, document_of, model_checks, model_meaning, model_in, model_of}
-use Rattle.cl_model.specs.Reading.Checks.{a_name, an_array, a_word, a_table, found_or, meaning_of, value_at, fields_checks, field_checks, a_table_of, keys_of, has_only}
-use Rattle.cl_model.specs.Reading.Meanings.{text_in, list_of, table_of, word_if}
-use Rattle.cl_model.specs.Reading.Tables.{core_fields, core_meaning, label_fields, label_meaning, StimulusForm, stimulus_forms, periodic_form, sporadic_form, burst_form, stimulus_fields, form_checks}
-use Rattle.cl_model.specs.Reading.Tables.{stimulus_entry_checks, stimulus_meaning, runnable_fields, runnable_meaning, task_fields, task_meaning, chain_fields, chain_meaning, requirement_fields}
-use Rattle.cl_model.specs.Reading.Tables.{requirement_meaning}
-use Rattle.cl_model.specs.Refusals.{unless, answer}
-use Rattle.cl_model.proofs.NoRefusals.{AllNone, all_none}
-use Rattle.cl_model.proofs.ReadValues.{number_at_between, number_or_zero_between, number_if_between, name_at, names_at, short, all_good, table_good, fields_none}
-use Rattle.cl_model.proofs.Refused.{none_behind, unless_none}
+use Rattle.cl_model.proofs.{NoRefusals.{AllNone, all_none}, ReadValues.{number_at_between, number_or_zero_between, number_if_between, name_at, names_at, short, all_good, table_good, fields_none}, Refused.{none_behind, unless_none}}
 
 -- ---- stimuli
 

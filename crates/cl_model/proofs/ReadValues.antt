@@ -7,16 +7,9 @@ use Rattle.std.proofs.lemmas.Bool.{leb-true}
 use Rattle.std.proofs.lemmas.List.{length-map}
 use Rattle.std.proofs.lemmas.List.Elements.{All-from_recursion}
 use Rattle.toml.specs.Data.{Data, string, integer, float, boolean, datetime, array, table, Members}
-use Rattle.cl_model.specs.declared.place.Place.{Place}
-use Rattle.cl_model.specs.declared.refusal.Code.TheVariants.{M4, M5}
-use Rattle.cl_model.specs.declared.refusal.Refusal.{Refusal}
-use Rattle.cl_model.specs.Name.{IsName}
-use Rattle.cl_model.specs.Refusals.{unless, each_from}
-use Rattle.cl_model.specs.Reading.Checks.{Check, a_name, a_number, a_table, an_array, found_or, members_of, fields_checks, field_checks, Field, keys_of, has_only}
-use Rattle.cl_model.specs.Reading.Meanings.{text_in, number_in, list_of, table_of}
-use Rattle.cl_model.proofs.ListFacts.{both_pass}
-use Rattle.cl_model.proofs.NoRefusals.{AllNone, all_none}
-use Rattle.cl_model.proofs.Refused.{none_before, none_behind, unless_none}
+use Rattle.cl_model.specs.{declared.{place.Place.Place, refusal.{Code.TheVariants.{M4, M5}, Refusal.Refusal}}, Name.IsName, Refusals.{unless, each_from}, Reading.Checks.{Check, a_name, a_number, a_table, an_array, found_or, members_of, fields_checks, field_checks, Field, keys_of}}
+use Rattle.cl_model.specs.Reading.{Checks.has_only, Meanings.{text_in, number_in, list_of, table_of}}
+use Rattle.cl_model.proofs.{ListFacts.both_pass, NoRefusals.{AllNone, all_none}, Refused.{none_before, none_behind, unless_none}}
 
 -- ---- numbers
 

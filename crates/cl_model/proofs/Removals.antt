@@ -3,9 +3,7 @@ use Rattle.std.proofs.Common.{◌≡◌, ℕ, zero, suc, ◌+◌, ◌<◌, ◌�
 use Rattle.std.specs.List.{list_any, remove}
 use Rattle.std.proofs.lemmas.Bool.{cases_lt, or_parts, or_from}
 use Rattle.std.proofs.lemmas.List.Edits.{length-remove, get_or-remove_below, get_or-remove_above}
-use Rattle.cl_model.specs.Named.{same_name, has_name}
-use Rattle.cl_model.specs.NameSets.{AreDistinctNames}
-use Rattle.cl_model.specs.TaskNumbers.{number_without}
+use Rattle.cl_model.specs.{Named.{same_name, has_name}, NameSets.AreDistinctNames, TaskNumbers.number_without}
 use Rattle.cl_model.proofs.NumberFacts.{kept_number, moved_number}
 
 -- ---- what stands in front

@@ -3,28 +3,12 @@
 use Rattle.std.proofs.Common.{◌≡◌, ℕ, ◌<◌, ◌≤◌, false, List, [], ◌∷◌, ◌++◌, length, get_or, take, subst}
 use Rattle.std.specs.Prelude.{All, Contains}
 use Rattle.std.proofs.lemmas.Bool.{ltb-false}
-use Rattle.cl_model.specs.declared.group.Step.{Step}
-use Rattle.cl_model.specs.declared.model.SystemModel.{SystemModel}
+use Rattle.cl_model.specs.{declared.{group.Step.Step, model.SystemModel.SystemModel, place.Place.Place, refusal.{Code.{Code, TheVariants.{M37, M38, M39}}, Refusal.Refusal}, task.RunnableDef.RunnableDef}, ByNumber.{no_task, task_at, runnable_at, no_runnable}, Groups.IsStepOf}
+use Rattle.cl_model.specs.{KnownNames.HasKnownLabels, Named.{has_name, label_names, all_runnables, labels_written}, Place.{entry_of, at_key, at_sub, at_spot}, Refusals.each, ValidTasks.{naming_checks, label_check, writer_check, times_check, reads_check, writes_check, twice_check}}
+use Rattle.cl_model.specs.{ValidTasks.{contest_check, runnable_checks, body_check, body_checks, count_check, task_check}, Validity.IsValid}
 use Rattle.cl_model.specs.declared.place.Key.TheVariants as key
 use Rattle.cl_model.specs.declared.place.Part.TheVariants as part
-use Rattle.cl_model.specs.declared.place.Place.{Place}
-use Rattle.cl_model.specs.declared.refusal.Code.{Code}
-use Rattle.cl_model.specs.declared.refusal.Code.TheVariants.{M37, M38, M39}
-use Rattle.cl_model.specs.declared.refusal.Refusal.{Refusal}
-use Rattle.cl_model.specs.declared.task.RunnableDef.{RunnableDef}
-use Rattle.cl_model.specs.ByNumber.{no_task, task_at, runnable_at, no_runnable}
-use Rattle.cl_model.specs.Groups.{IsStepOf}
-use Rattle.cl_model.specs.KnownNames.{HasKnownLabels}
-use Rattle.cl_model.specs.Named.{has_name, label_names, all_runnables, labels_written}
-use Rattle.cl_model.specs.Place.{entry_of, at_key, at_sub, at_spot}
-use Rattle.cl_model.specs.Refusals.{each}
-use Rattle.cl_model.specs.ValidTasks.{naming_checks, label_check, writer_check, times_check, reads_check, writes_check, twice_check, contest_check, runnable_checks, body_check, body_checks, count_check, task_check}
-use Rattle.cl_model.specs.Validity.{IsValid}
-use Rattle.cl_model.proofs.NamePlaces.{known_stands}
-use Rattle.cl_model.proofs.NamesApart.{repeats_none}
-use Rattle.cl_model.proofs.NoRefusals.{AllNone, all_none}
-use Rattle.cl_model.proofs.PassedChecks.{tasks_pass}
-use Rattle.cl_model.proofs.Refused.{when_none, unless_none, each_none}
+use Rattle.cl_model.proofs.{NamePlaces.known_stands, NamesApart.repeats_none, NoRefusals.{AllNone, all_none}, PassedChecks.tasks_pass, Refused.{when_none, unless_none, each_none}}
 
 -- the labels that are written before runnable p of task i
 abbrev written_before : SystemModel → ℕ → ℕ → List (List ℕ)

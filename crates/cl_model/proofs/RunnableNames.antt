@@ -4,20 +4,9 @@ use Rattle.std.proofs.lemmas.List.{take_more, take_all, get_or_default, append-n
 use Rattle.std.proofs.lemmas.Grind.{flat_map-append}
 use Rattle.cl_model.specs.declared.place.Key.TheVariants as key
 use Rattle.cl_model.specs.declared.place.Part.TheVariants as part
-use Rattle.cl_model.specs.declared.refusal.Code.TheVariants.{M24}
-use Rattle.cl_model.specs.declared.task.TaskDef.{TaskDef}
-use Rattle.cl_model.specs.declared.task.RunnableDef.{RunnableDef}
-use Rattle.cl_model.specs.declared.model.SystemModel.{SystemModel}
-use Rattle.cl_model.specs.ByNumber.{no_task}
-use Rattle.cl_model.specs.Named.{runnable_names, all_runnables}
-use Rattle.cl_model.specs.NameSets.{AreDistinctNames, AreNew}
-use Rattle.cl_model.specs.Place.{entry_of, at_key, at_sub}
-use Rattle.cl_model.specs.Refusals.{each}
-use Rattle.cl_model.specs.ValidNames.{repeat_check, runnable_repeats}
-use Rattle.cl_model.specs.Validity.{IsValid}
-use Rattle.cl_model.proofs.NamePlaces.{apart_behind}
-use Rattle.cl_model.proofs.NamesApart.{runnables_pass}
-use Rattle.cl_model.proofs.Refused.{when_none, each_none}
+use Rattle.cl_model.specs.{declared.{refusal.Code.TheVariants.M24, task.{TaskDef.TaskDef, RunnableDef.RunnableDef}, model.SystemModel.SystemModel}, ByNumber.no_task, Named.{runnable_names, all_runnables}, NameSets.{AreDistinctNames, AreNew}, Place.{entry_of, at_key, at_sub}, Refusals.each}
+use Rattle.cl_model.specs.{ValidNames.{repeat_check, runnable_repeats}, Validity.IsValid}
+use Rattle.cl_model.proofs.{NamePlaces.apart_behind, NamesApart.runnables_pass, Refused.{when_none, each_none}}
 
 -- the runnables of one more task
 pub runnables_more : (tasks : List TaskDef) (i : ℕ) (task : TaskDef) → i < length tasks → task ≡ get_or tasks i task → all_runnables (take (i + 1) tasks) ≡ all_runnables (take i tasks) ++ task.runnables

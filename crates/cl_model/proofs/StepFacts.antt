@@ -6,15 +6,8 @@ use Rattle.std.proofs.lemmas.Option.{slice_get-get_or}
 use Rattle.std.proofs.lemmas.Bool.{ltb-false, ltb-true}
 use Rattle.std.proofs.lemmas.List.{append-nil, length-append, length-map, get_or-map, get_or_append_left, get_or-append_right, get_or_default}
 use Rattle.std.proofs.lemmas.List.FromFn.{length-map-range_with_len, get_or-map-range_with_len, map-range_with_len_more}
-use Rattle.cl_model.specs.declared.group.Step.{Step}
-use Rattle.cl_model.specs.declared.groups.StepTable.{StepTable}
-use Rattle.cl_model.specs.declared.model.SystemModel.{SystemModel}
-use Rattle.cl_model.specs.declared.task.RunnableDef.{RunnableDef}
-use Rattle.cl_model.specs.declared.task.TaskDef.{TaskDef}
-use Rattle.cl_model.specs.Groups.{step_from, step_named, no_step, IsStepOf}
-use Rattle.cl_model.specs.Named.{has_name, index_of, runnable_names, all_runnables, runnable_named}
-use Rattle.cl_model.specs.ByNumber.{no_task, no_runnable, task_at, runnable_at}
-use Rattle.cl_model.specs.Inner.StepTable.{steps_in, steps_from, step_in, AreStepsOf}
+use Rattle.cl_model.specs.{declared.{group.Step.Step, groups.StepTable.StepTable, model.SystemModel.SystemModel, task.{RunnableDef.RunnableDef, TaskDef.TaskDef}}, Groups.{step_from, step_named, no_step, IsStepOf}, Named.{has_name, index_of, runnable_names, all_runnables, runnable_named}}
+use Rattle.cl_model.specs.{ByNumber.{no_task, no_runnable, task_at, runnable_at}, Inner.StepTable.{steps_in, steps_from, step_in, AreStepsOf}}
 use Rattle.cl_model.proofs.NamePlaces.{place_within, known_place, known_named, found_below}
 
 -- ---- the steps of all runnables

@@ -7,20 +7,9 @@ use Rattle.std.proofs.lemmas.Bool.{cases_order, or_left, or_right, false≢true}
 use Rattle.std.proofs.lemmas.List.{get_or-map, get_or-take, length-take-le, take-map}
 use Rattle.std.proofs.lemmas.List.Folds.{list_any_at, list_any-append}
 use Rattle.std.proofs.Math.ListN.{length-map}
-use Rattle.cl_model.specs.declared.group.Step.{Step}
-use Rattle.cl_model.specs.declared.model.SystemModel.{SystemModel}
-use Rattle.cl_model.specs.declared.task.RunnableDef.{RunnableDef}
-use Rattle.cl_model.specs.declared.task.TaskDef.{TaskDef}
-use Rattle.cl_model.specs.ByNumber.{no_task, no_runnable, task_at, runnable_at}
-use Rattle.cl_model.specs.Groups.{step_named, IsStepOf}
-use Rattle.cl_model.specs.Named.{same_name, has_name, runnable_names, all_runnables, labels_written}
-use Rattle.cl_model.specs.Validity.{IsValid}
-use Rattle.cl_model.proofs.ListFacts.{list_any-map, list_any-flat_map}
-use Rattle.cl_model.proofs.NamePlaces.{stands_known}
-use Rattle.cl_model.proofs.NamesApart.{runnables_pass}
-use Rattle.cl_model.proofs.RunnableChecks.{label_not_written}
-use Rattle.cl_model.proofs.RunnableNames.{runnables_are_new}
-use Rattle.cl_model.proofs.StepFacts.{step_stands_in, step_has_name}
+use Rattle.cl_model.specs.{declared.{group.Step.Step, model.SystemModel.SystemModel, task.{RunnableDef.RunnableDef, TaskDef.TaskDef}}, ByNumber.{no_task, no_runnable, task_at, runnable_at}, Groups.{step_named, IsStepOf}, Named.{same_name, has_name, runnable_names, all_runnables}}
+use Rattle.cl_model.specs.{Named.labels_written, Validity.IsValid}
+use Rattle.cl_model.proofs.{ListFacts.{list_any-map, list_any-flat_map}, NamePlaces.stands_known, NamesApart.runnables_pass, RunnableChecks.label_not_written, RunnableNames.runnables_are_new, StepFacts.{step_stands_in, step_has_name}}
 
 -- a step stands in an earlier task, or earlier in the same one
 abbrev IsBefore : Step → Step → Type 0

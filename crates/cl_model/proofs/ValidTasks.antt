@@ -7,29 +7,13 @@ use Rattle.std.proofs.lemmas.Bool.{cases_eq, ltb-false, leb-false, eqb-false, fa
 use Rattle.std.proofs.Math.Nat.{suc-mul}
 use Rattle.std.proofs.lemmas.List.{take_all}
 use Rattle.std.proofs.lemmas.List.Sums.{sum_by-le, get_or-le-sum_by}
-use Rattle.cl_model.specs.declared.limits.TheConstants.{MOST_TICKS, MOST_RUNNABLES, MOST_RUNNABLES_OF_MODEL, MOST_TASKS_OF_CORE}
-use Rattle.cl_model.specs.declared.model.SystemModel.{SystemModel}
+use Rattle.cl_model.specs.declared.{limits.TheConstants.{MOST_TICKS, MOST_RUNNABLES, MOST_RUNNABLES_OF_MODEL, MOST_TASKS_OF_CORE}, model.SystemModel.SystemModel, refusal.Refusal.Refusal, stimulus.{StimulusDef.StimulusDef, StimulusKind.{StimulusKind, TheVariants.{Periodic, Sporadic}}}}
+use Rattle.cl_model.specs.{declared.{stimulus.StimulusKind.TheVariants.Burst, task.{RunnableDef.RunnableDef, TaskDef.TaskDef}}, Named.{is_some_and, core_names, label_names, kind_named, tasks_on, all_runnables, labels_written}, ByNumber.{no_stimulus, no_task, no_runnable, task_at}}
+use Rattle.cl_model.specs.{ByNumber.{stimulus_of, deadline_of, jitter_of, greatest_time, time_of}, Place.entry_of, Ranges.{IsKindInRange, IsRunnableInRange, IsTaskInRange}, Refusals.each, Timing.{IsKindOrdered, least_distance, greatest_distance, greatest_jitter, deadline_under}}
+use Rattle.cl_model.specs.{ValidNames.{has_late_offset, has_no_distance, has_long_burst, offset_check, distance_check, burst_check, stimulus_checks}, ValidTasks.{core_check, stimulus_check, priority_check, late_check, release_check, room_check, empty_check, naming_checks, body_checks}}
+use Rattle.cl_model.specs.{ValidTasks.{count_check, task_check}, Validity.IsValid}
 use Rattle.cl_model.specs.declared.place.Part.TheVariants as part
-use Rattle.cl_model.specs.declared.refusal.Refusal.{Refusal}
-use Rattle.cl_model.specs.declared.stimulus.StimulusDef.{StimulusDef}
-use Rattle.cl_model.specs.declared.stimulus.StimulusKind.{StimulusKind}
-use Rattle.cl_model.specs.declared.stimulus.StimulusKind.TheVariants.{Periodic, Sporadic, Burst}
-use Rattle.cl_model.specs.declared.task.RunnableDef.{RunnableDef}
-use Rattle.cl_model.specs.declared.task.TaskDef.{TaskDef}
-use Rattle.cl_model.specs.Named.{is_some_and, core_names, label_names, kind_named, tasks_on, all_runnables, labels_written}
-use Rattle.cl_model.specs.ByNumber.{no_stimulus, no_task, no_runnable, task_at, stimulus_of, deadline_of, jitter_of, greatest_time, time_of}
-use Rattle.cl_model.specs.Place.{entry_of}
-use Rattle.cl_model.specs.Ranges.{IsKindInRange, IsRunnableInRange, IsTaskInRange}
-use Rattle.cl_model.specs.Refusals.{each}
-use Rattle.cl_model.specs.Timing.{IsKindOrdered, least_distance, greatest_distance, greatest_jitter, deadline_under}
-use Rattle.cl_model.specs.ValidNames.{has_late_offset, has_no_distance, has_long_burst, offset_check, distance_check, burst_check, stimulus_checks}
-use Rattle.cl_model.specs.ValidTasks.{core_check, stimulus_check, priority_check, late_check, release_check, room_check, empty_check, naming_checks, body_checks, count_check, task_check}
-use Rattle.cl_model.specs.Validity.{IsValid}
-use Rattle.cl_model.proofs.Refused.{none_before, none_behind, when_none, each_none}
-use Rattle.cl_model.proofs.PassedChecks.{stimuli_pass, tasks_pass, naming_passes}
-use Rattle.cl_model.proofs.NoRefusals.{all_none}
-use Rattle.cl_model.proofs.NamesKnown.{stimulus_known}
-use Rattle.cl_model.proofs.RunnableChecks.{times_in_order}
+use Rattle.cl_model.proofs.{Refused.{none_before, none_behind, when_none, each_none}, PassedChecks.{stimuli_pass, tasks_pass, naming_passes}, NoRefusals.all_none, NamesKnown.stimulus_known, RunnableChecks.times_in_order}
 
 -- ---- stimuli
 

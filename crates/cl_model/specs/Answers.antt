@@ -1,9 +1,6 @@
 -- What is answered of a model, in three cases: it is accepted with a value, it is refused, or memory was wanting.
 use Rattle.std.specs.Prelude.{◌≡◌, List, [], Some, Result, Ok, Err}
-use Rattle.cl_model.specs.declared.model_fault.ModelFault.{ModelFault}
-use Rattle.cl_model.specs.declared.model_fault.ModelFault.TheVariants.{Refused, NoMemory}
-use Rattle.cl_model.specs.declared.refusal.Refusal.{Refusal}
-use Rattle.cl_model.specs.Refusals.{first}
+use Rattle.cl_model.specs.{declared.{model_fault.ModelFault.{ModelFault, TheVariants.{Refused, NoMemory}}, refusal.Refusal.Refusal}, Refusals.first}
 
 -- of a fault: `refused` holds of its refusal, and want of memory says nothing of the model
 abbrev pub MatchFault : ModelFault → (refused : Refusal → Type 0) → Type 0

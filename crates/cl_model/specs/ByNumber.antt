@@ -1,20 +1,8 @@
 -- What a model says of its tasks, chains, requirements and cores, by their numbers. Times are in ticks.
 use Rattle.std.specs.Prelude.{ℕ, ◌==◌, false, List, [], length, slice_index_or, filter, sum_by, Option, None, unwrap_or}
 use Rattle.std.specs.List.{range_with_len}
-use Rattle.cl_model.specs.declared.model.SystemModel.{SystemModel}
-use Rattle.cl_model.specs.declared.model.CoreDef.{CoreDef}
-use Rattle.cl_model.specs.declared.chain.ChainDef.{ChainDef}
-use Rattle.cl_model.specs.declared.chain.LengthKind.TheVariants.{Reaction}
-use Rattle.cl_model.specs.declared.chain.RequirementDef.{RequirementDef}
-use Rattle.cl_model.specs.declared.chain.RequirementKind.TheVariants.{Length}
-use Rattle.cl_model.specs.declared.group.Step.{Step}
-use Rattle.cl_model.specs.declared.stimulus.StimulusKind.{StimulusKind}
-use Rattle.cl_model.specs.declared.stimulus.StimulusKind.TheVariants.{Sporadic}
-use Rattle.cl_model.specs.declared.task.AccessKind.TheVariants.{Explicit}
-use Rattle.cl_model.specs.declared.task.RunnableDef.{RunnableDef}
-use Rattle.cl_model.specs.declared.task.TaskDef.{TaskDef}
-use Rattle.cl_model.specs.Named.{index_of, core_names, stimulus_names, task_names, chain_names, requirement_names, kind_named}
-use Rattle.cl_model.specs.Timing.{greatest_jitter, deadline_under}
+use Rattle.cl_model.specs.declared.{model.{SystemModel.SystemModel, CoreDef.CoreDef}, chain.{ChainDef.ChainDef, LengthKind.TheVariants.Reaction, RequirementDef.RequirementDef, RequirementKind.TheVariants.Length}, group.Step.Step, stimulus.StimulusKind.{StimulusKind, TheVariants.Sporadic}}
+use Rattle.cl_model.specs.{declared.task.{AccessKind.TheVariants.Explicit, RunnableDef.RunnableDef, TaskDef.TaskDef}, Named.{index_of, core_names, stimulus_names, task_names, chain_names, requirement_names, kind_named}, Timing.{greatest_jitter, deadline_under}}
 
 -- stands for a task past the last one
 unfoldable pub no_task : TaskDef

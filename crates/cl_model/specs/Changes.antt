@@ -1,17 +1,7 @@
 -- Changes of a model, of what stands there under a number. Times are in ticks.
 use Rattle.std.specs.Prelude.{ℕ, Bool, Option, List, [], ◌∷◌, ◌++◌, slice_index_or, slice_set, remove}
-use Rattle.cl_model.specs.declared.model.SystemModel.{SystemModel}
-use Rattle.cl_model.specs.declared.stimulus.StimulusKind.{StimulusKind}
-use Rattle.cl_model.specs.declared.stimulus.StimulusKind.TheVariants.{Periodic, Sporadic, Burst}
-use Rattle.cl_model.specs.declared.stimulus.StimulusDef.{StimulusDef}
-use Rattle.cl_model.specs.declared.task.AccessKind.{AccessKind}
-use Rattle.cl_model.specs.declared.task.RunnableDef.{RunnableDef}
-use Rattle.cl_model.specs.declared.task.TaskDef.{TaskDef}
-use Rattle.cl_model.specs.declared.changes.TaskPriority.{TaskPriority}
-use Rattle.cl_model.specs.declared.chain.ChainDef.{ChainDef}
-use Rattle.cl_model.specs.declared.chain.RequirementDef.{RequirementDef}
-use Rattle.cl_model.specs.declared.group.Step.{Step}
-use Rattle.cl_model.specs.ByNumber.{no_stimulus, task_at, runnable_at}
+use Rattle.cl_model.specs.declared.{model.SystemModel.SystemModel, stimulus.{StimulusKind.{StimulusKind, TheVariants.{Periodic, Sporadic, Burst}}, StimulusDef.StimulusDef}, task.{AccessKind.AccessKind, RunnableDef.RunnableDef, TaskDef.TaskDef}, changes.TaskPriority.TaskPriority}
+use Rattle.cl_model.specs.{declared.{chain.{ChainDef.ChainDef, RequirementDef.RequirementDef}, group.Step.Step}, ByNumber.{no_stimulus, task_at, runnable_at}}
 
 -- ---- runnables
 

@@ -1,7 +1,6 @@
 -- Steps cut where a group ends.
 use Rattle.std.specs.Prelude.{◌≡◌, ℕ, List, ◌++◌, take, drop}
-use Rattle.cl_model.specs.declared.group.Step.{Step}
-use Rattle.cl_model.specs.Groups.{groups}
+use Rattle.cl_model.specs.{declared.group.Step.Step, Groups.groups}
 
 -- The steps cut behind so many of their groups: both parts have their own groups, and these are the groups of the
 -- whole.

@@ -1,12 +1,6 @@
 -- Chains of steps, and their groups.
 use Rattle.std.specs.Prelude.{ℕ, ◌+◌, ◌-◌, ◌<◌, ◌≤◌, Bool, ◌==◌, ◌&&◌, nat_lt, if◌then◌else◌, List, [], ◌∷◌, length, map, slice_index_or, unwrap_or}
-use Rattle.cl_model.specs.declared.model.SystemModel.{SystemModel}
-use Rattle.cl_model.specs.declared.task.TaskDef.{TaskDef}
-use Rattle.cl_model.specs.declared.chain.ChainDef.{ChainDef}
-use Rattle.cl_model.specs.declared.group.Group.{Group}
-use Rattle.cl_model.specs.declared.group.Step.{Step}
-use Rattle.cl_model.specs.Named.{index_of, runnable_names, all_runnables}
-use Rattle.cl_model.specs.ByNumber.{task_at, chain_at}
+use Rattle.cl_model.specs.{declared.{model.SystemModel.SystemModel, task.TaskDef.TaskDef, chain.ChainDef.ChainDef, group.{Group.Group, Step.Step}}, Named.{index_of, runnable_names, all_runnables}, ByNumber.{task_at, chain_at}}
 
 -- ---- steps
 

@@ -1,7 +1,6 @@
 -- How long a whole runnable may hold its core once it has begun. Times are in ticks.
 use Rattle.std.specs.Prelude.{ℕ, ◌-◌, max, cond, fold, List}
-use Rattle.cl_model.specs.declared.task.RunnableDef.{RunnableDef}
-use Rattle.cl_model.specs.declared.task.TaskDef.{TaskDef}
+use Rattle.cl_model.specs.declared.task.{RunnableDef.RunnableDef, TaskDef.TaskDef}
 
 -- the greatest of a list by a number of each, 0 where there is none
 abbrev pub greatest_by : {X : Type 0} → (X → ℕ) → List X → ℕ

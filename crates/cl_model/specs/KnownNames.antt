@@ -1,12 +1,6 @@
 -- Names in a model that stand for its parts: which are known, and what they link.
 use Rattle.std.specs.Prelude.{◌≡◌, ℕ, ◌+◌, ◌<◌, List, [], length, slice_index_or, All, Contains, Some}
-use Rattle.cl_model.specs.declared.model.SystemModel.{SystemModel}
-use Rattle.cl_model.specs.declared.task.RunnableDef.{RunnableDef}
-use Rattle.cl_model.specs.declared.task.TaskDef.{TaskDef}
-use Rattle.cl_model.specs.declared.chain.ChainDef.{ChainDef}
-use Rattle.cl_model.specs.ByNumber.{runnable_at}
-use Rattle.cl_model.specs.Groups.{step_named}
-use Rattle.cl_model.specs.Named.{index_of, core_names, stimulus_names, label_names, runnable_names, all_runnables}
+use Rattle.cl_model.specs.{declared.{model.SystemModel.SystemModel, task.{RunnableDef.RunnableDef, TaskDef.TaskDef}, chain.ChainDef.ChainDef}, ByNumber.runnable_at, Groups.step_named, Named.{index_of, core_names, stimulus_names, label_names, runnable_names, all_runnables}}
 use Rattle.cl_model.specs.NameSets.{AreDistinctNames}
 
 -- ---- look-ups

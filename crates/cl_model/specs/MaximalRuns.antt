@@ -1,9 +1,7 @@
 -- The groups of a list of steps in words: they cut it into its longest pieces of inner hops.
 use Rattle.std.specs.Prelude.{◌≡◌, ℕ, ◌+◌, ◌-◌, ◌<◌, List, [], length, slice_index_or}
 use Rattle.std.specs.List.{flat_map}
-use Rattle.cl_model.specs.declared.group.Group.{Group}
-use Rattle.cl_model.specs.declared.group.Step.{Step}
-use Rattle.cl_model.specs.Groups.{step_at, group_at}
+use Rattle.cl_model.specs.{declared.group.{Group.Group, Step.Step}, Groups.{step_at, group_at}}
 
 -- the hop from a step to the next is inner: both stand in one task, and the writer stands before the reader
 pub record IsInnerHop (writer reader : Step) : Type 0 where

@@ -3,10 +3,7 @@ use Rattle.std.specs.Prelude.{ℕ, Bool, false, nat_eq, List, map, filter, posit
 use Rattle.std.specs.List.{list_any, flat_map}
 use Rattle.std.specs.Option.{option_map, option_and_then, option_map_or}
 use Rattle.std.specs.Cmp.Lexicographic.{pointwise}
-use Rattle.cl_model.specs.declared.model.SystemModel.{SystemModel}
-use Rattle.cl_model.specs.declared.stimulus.StimulusKind.{StimulusKind}
-use Rattle.cl_model.specs.declared.task.RunnableDef.{RunnableDef}
-use Rattle.cl_model.specs.declared.task.TaskDef.{TaskDef}
+use Rattle.cl_model.specs.declared.{model.SystemModel.SystemModel, stimulus.StimulusKind.StimulusKind, task.{RunnableDef.RunnableDef, TaskDef.TaskDef}}
 
 -- whether two names are the same, byte by byte
 abbrev pub same_name : List ℕ → List ℕ → Bool

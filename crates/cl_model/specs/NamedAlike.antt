@@ -1,13 +1,6 @@
 -- Models of the same names and labels, whatever else is set: times, kinds, cores, priorities, accesses, deadlines.
 use Rattle.std.specs.Prelude.{◌≡◌, false, [], map, None}
-use Rattle.cl_model.specs.declared.model.SystemModel.{SystemModel}
-use Rattle.cl_model.specs.declared.task.AccessKind.TheVariants.{Explicit}
-use Rattle.cl_model.specs.declared.task.RunnableDef.{RunnableDef}
-use Rattle.cl_model.specs.declared.task.TaskDef.{TaskDef}
-use Rattle.cl_model.specs.Named.{stimulus_names}
-use Rattle.cl_model.specs.Ranges.{IsInRange}
-use Rattle.cl_model.specs.ValidNames.{stimulus_checks}
-use Rattle.cl_model.specs.ValidTasks.{task_checks, deadline_checks}
+use Rattle.cl_model.specs.{declared.{model.SystemModel.SystemModel, task.{AccessKind.TheVariants.Explicit, RunnableDef.RunnableDef, TaskDef.TaskDef}}, Named.stimulus_names, Ranges.IsInRange, ValidNames.stimulus_checks, ValidTasks.{task_checks, deadline_checks}}
 
 -- the name of a runnable and those of its labels, and nothing else of it
 abbrev pub named_runnable : RunnableDef → RunnableDef

@@ -1,11 +1,9 @@
 -- Places of a model file, and how one prints.
 use Rattle.std.specs.Prelude.{ℕ, List, [], ◌++◌, Option, Some, None, codes}
 use Rattle.std.specs.Fmt.{decimal}
-use Rattle.cl_model.specs.declared.place.Part.{Part}
+use Rattle.cl_model.specs.declared.place.{Part.Part, Key.Key, Place.Place}
 use Rattle.cl_model.specs.declared.place.Part.TheVariants as part
-use Rattle.cl_model.specs.declared.place.Key.{Key}
 use Rattle.cl_model.specs.declared.place.Key.TheVariants as key
-use Rattle.cl_model.specs.declared.place.Place.{Place}
 
 -- a part as a whole
 abbrev pub section_place : Part → Place

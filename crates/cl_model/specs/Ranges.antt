@@ -1,12 +1,7 @@
 -- The ranges of a model: how many entries each part may have, and which numbers. Times are in ticks.
 use Rattle.std.specs.Prelude.{ℕ, ◌≤◌, length, All, IfSome}
 use Rattle.cl_model.specs.declared.limits.TheConstants.{MOST_TICKS, MOST_REQUIRED, MOST_PRIORITY, MOST_CORES, MOST_STIMULI, MOST_LABELS, MOST_TASKS, MOST_RUNNABLES, MOST_ACCESSES, MOST_CHAINS, MOST_STEPS, MOST_HOPS, MOST_REQUIREMENTS, LEAST_JOBS_OF_BURST, MOST_JOBS_OF_BURST}
-use Rattle.cl_model.specs.declared.model.SystemModel.{SystemModel}
-use Rattle.cl_model.specs.declared.stimulus.StimulusKind.{StimulusKind}
-use Rattle.cl_model.specs.declared.stimulus.StimulusKind.TheVariants.{Periodic, Sporadic, Burst}
-use Rattle.cl_model.specs.declared.task.RunnableDef.{RunnableDef}
-use Rattle.cl_model.specs.declared.task.TaskDef.{TaskDef}
-use Rattle.cl_model.specs.declared.chain.ChainDef.{ChainDef}
+use Rattle.cl_model.specs.declared.{model.SystemModel.SystemModel, stimulus.StimulusKind.{StimulusKind, TheVariants.{Periodic, Sporadic, Burst}}, task.{RunnableDef.RunnableDef, TaskDef.TaskDef}, chain.ChainDef.ChainDef}
 
 -- a time from 1 up
 abbrev pub IsTime : ℕ → Type 0

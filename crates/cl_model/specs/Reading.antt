@@ -6,21 +6,12 @@ pub mod Tables
 use Rattle.std.specs.Prelude.{ℕ, Bool, false, ◌==◌, ◌||◌, if◌then◌else◌, pos, List, [], ◌∷◌, map, Option, Some, None, Result, Err, codes}
 use Rattle.std.specs.Str.{is_utf8, bytes_eq}
 use Rattle.std.specs.Option.{option_map_or}
-use Rattle.toml.specs.Data.{Data, string, integer, Members}
-use Rattle.toml.specs.Parse.{parse_document}
-use Rattle.cl_model.specs.declared.limits.TheConstants.{MOST_CORES, MOST_STIMULI, MOST_LABELS, MOST_TASKS, MOST_CHAINS, MOST_REQUIREMENTS}
-use Rattle.cl_model.specs.declared.place.Part.{Part}
+use Rattle.toml.specs.{Data.{Data, string, integer, Members}, Parse.parse_document}
+use Rattle.cl_model.specs.{declared.{limits.TheConstants.{MOST_CORES, MOST_STIMULI, MOST_LABELS, MOST_TASKS, MOST_CHAINS, MOST_REQUIREMENTS}, place.{Part.Part, Key.Key}, refusal.{Code.TheVariants.{M1, M2, M3, M4}, Refusal.Refusal}, model.SystemModel.SystemModel}, Place.section_place}
+use Rattle.cl_model.specs.{Place.{top, at_key, at_item}, Refusals.{unless, in_order, answer}, Reading.{Checks.{Check, a_table, a_table_of, an_array, value_at, found_or, has_only}, Meanings.{number_at, tables_at}, Tables.{core_fields, core_meaning, stimulus_entry_checks, stimulus_meaning}}}
+use Rattle.cl_model.specs.Reading.Tables.{label_fields, label_meaning, task_fields, task_meaning, chain_fields, chain_meaning, requirement_fields, requirement_meaning}
 use Rattle.cl_model.specs.declared.place.Part.TheVariants as part
-use Rattle.cl_model.specs.declared.place.Key.{Key}
 use Rattle.cl_model.specs.declared.place.Key.TheVariants as key
-use Rattle.cl_model.specs.declared.refusal.Code.TheVariants.{M1, M2, M3, M4}
-use Rattle.cl_model.specs.declared.refusal.Refusal.{Refusal}
-use Rattle.cl_model.specs.declared.model.SystemModel.{SystemModel}
-use Rattle.cl_model.specs.Place.{section_place, top, at_key, at_item}
-use Rattle.cl_model.specs.Refusals.{unless, in_order, answer}
-use Rattle.cl_model.specs.Reading.Checks.{Check, a_table, a_table_of, an_array, value_at, found_or, has_only}
-use Rattle.cl_model.specs.Reading.Meanings.{number_at, tables_at}
-use Rattle.cl_model.specs.Reading.Tables.{core_fields, core_meaning, stimulus_entry_checks, stimulus_meaning, label_fields, label_meaning, task_fields, task_meaning, chain_fields, chain_meaning, requirement_fields, requirement_meaning}
 
 -- a section of the file: an array of tables, whose entries are checked by the version of the file
 pub record Section : Type 0 where

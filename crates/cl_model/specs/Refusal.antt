@@ -1,9 +1,7 @@
 -- How a refusal prints.
 use Rattle.std.specs.Prelude.{ℕ, List, ◌++◌, codes}
-use Rattle.cl_model.specs.declared.refusal.Code.{Code}
+use Rattle.cl_model.specs.{declared.refusal.{Code.Code, Refusal.Refusal}, Place.place_text}
 use Rattle.cl_model.specs.declared.refusal.Code.TheVariants as code
-use Rattle.cl_model.specs.declared.refusal.Refusal.{Refusal}
-use Rattle.cl_model.specs.Place.{place_text}
 
 -- a code as it prints
 abbrev pub code_text : Code → List ℕ

@@ -1,8 +1,6 @@
 -- Lists of refusals. A check gives a refusal or nothing, and the first refusal in a list of checks answers.
 use Rattle.std.specs.Prelude.{ℕ, ◌+◌, Bool, if◌then◌else◌, List, [], ◌∷◌, ◌++◌, Option, Some, None, Result, Ok, Err}
-use Rattle.cl_model.specs.declared.place.Place.{Place}
-use Rattle.cl_model.specs.declared.refusal.Code.{Code}
-use Rattle.cl_model.specs.declared.refusal.Refusal.{Refusal}
+use Rattle.cl_model.specs.declared.{place.Place.Place, refusal.{Code.Code, Refusal.Refusal}}
 
 -- a refusal
 abbrev pub refuse : Code → Place → List Refusal

@@ -1,7 +1,6 @@
 -- The numbers of tasks where one of them is taken out.
 use Rattle.std.specs.Prelude.{ℕ, ◌-◌, nat_lt, if◌then◌else◌}
-use Rattle.cl_model.specs.declared.group.Group.{Group}
-use Rattle.cl_model.specs.declared.group.Step.{Step}
+use Rattle.cl_model.specs.declared.group.{Group.Group, Step.Step}
 
 -- the number of a task without task t: those behind it move up
 abbrev pub number_without : (t : ℕ) → (i : ℕ) → ℕ

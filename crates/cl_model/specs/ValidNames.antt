@@ -1,20 +1,10 @@
 -- The checks of the names and of the stimuli of a model.
 use Rattle.std.specs.Prelude.{ℕ, ◌*◌, Bool, false, nat_lt, nat_le, List, [], ◌∷◌, ◌++◌, take}
-use Rattle.cl_model.specs.declared.place.Part.{Part}
+use Rattle.cl_model.specs.declared.{place.{Part.Part, Place.Place}, refusal.{Code.{Code, TheVariants.{M20, M21, M22, M23, M24, M25, M26, M27, M28, M47}}, Refusal.Refusal}, stimulus.{StimulusDef.StimulusDef, StimulusKind.{StimulusKind, TheVariants.{Periodic, Sporadic, Burst}}}}
+use Rattle.cl_model.specs.{declared.{task.TaskDef.TaskDef, model.SystemModel.SystemModel}, Named.{has_name, core_names, stimulus_names, label_names, task_names, chain_names, requirement_names, runnable_names, all_runnables}, Place.{entry_of, at_key, at_sub}, Refusals.{when, in_order}}
+use Rattle.cl_model.specs.Refusals.{each}
 use Rattle.cl_model.specs.declared.place.Part.TheVariants as part
 use Rattle.cl_model.specs.declared.place.Key.TheVariants as key
-use Rattle.cl_model.specs.declared.place.Place.{Place}
-use Rattle.cl_model.specs.declared.refusal.Code.{Code}
-use Rattle.cl_model.specs.declared.refusal.Code.TheVariants.{M20, M21, M22, M23, M24, M25, M26, M27, M28, M47}
-use Rattle.cl_model.specs.declared.refusal.Refusal.{Refusal}
-use Rattle.cl_model.specs.declared.stimulus.StimulusDef.{StimulusDef}
-use Rattle.cl_model.specs.declared.stimulus.StimulusKind.{StimulusKind}
-use Rattle.cl_model.specs.declared.stimulus.StimulusKind.TheVariants.{Periodic, Sporadic, Burst}
-use Rattle.cl_model.specs.declared.task.TaskDef.{TaskDef}
-use Rattle.cl_model.specs.declared.model.SystemModel.{SystemModel}
-use Rattle.cl_model.specs.Named.{has_name, core_names, stimulus_names, label_names, task_names, chain_names, requirement_names, runnable_names, all_runnables}
-use Rattle.cl_model.specs.Place.{entry_of, at_key, at_sub}
-use Rattle.cl_model.specs.Refusals.{when, in_order, each}
 
 -- ---- names
 

@@ -1,23 +1,11 @@
 -- The checks of the tasks of a model.
 use Rattle.std.specs.Prelude.{ℕ, ◌+◌, ◌*◌, Bool, ◌&&◌, ◌==◌, nat_lt, nat_le, List, [], ◌∷◌, ◌++◌, length, take, Option, is_some}
 use Rattle.std.specs.List.{list_any}
-use Rattle.cl_model.specs.declared.limits.TheConstants.{MOST_TASKS_OF_CORE, MOST_RUNNABLES_OF_MODEL, MOST_DISTANCES}
+use Rattle.cl_model.specs.declared.{limits.TheConstants.{MOST_TASKS_OF_CORE, MOST_RUNNABLES_OF_MODEL, MOST_DISTANCES}, place.{Key.Key, Place.Place}, refusal.{Code.{Code, TheVariants.{M29, M30, M31, M32, M33, M34, M35, M36, M37, M38, M39, M40, M41, M42}}, Refusal.Refusal}}
+use Rattle.cl_model.specs.{declared.{stimulus.StimulusKind.StimulusKind, task.{RunnableDef.RunnableDef, TaskDef.TaskDef}, model.SystemModel.SystemModel}, Named.{has_name, is_some_and, core_names, label_names, kind_named, tasks_on, all_runnables, labels_written}, Place.{entry_of, at_key}}
+use Rattle.cl_model.specs.{Place.{at_sub, at_spot}, Refusals.{when, unless, in_order, each}, Timing.{least_distance, greatest_jitter, deadline_under}, ValidNames.repeats}
 use Rattle.cl_model.specs.declared.place.Part.TheVariants as part
-use Rattle.cl_model.specs.declared.place.Key.{Key}
 use Rattle.cl_model.specs.declared.place.Key.TheVariants as key
-use Rattle.cl_model.specs.declared.place.Place.{Place}
-use Rattle.cl_model.specs.declared.refusal.Code.{Code}
-use Rattle.cl_model.specs.declared.refusal.Code.TheVariants.{M29, M30, M31, M32, M33, M34, M35, M36, M37, M38, M39, M40, M41, M42}
-use Rattle.cl_model.specs.declared.refusal.Refusal.{Refusal}
-use Rattle.cl_model.specs.declared.stimulus.StimulusKind.{StimulusKind}
-use Rattle.cl_model.specs.declared.task.RunnableDef.{RunnableDef}
-use Rattle.cl_model.specs.declared.task.TaskDef.{TaskDef}
-use Rattle.cl_model.specs.declared.model.SystemModel.{SystemModel}
-use Rattle.cl_model.specs.Named.{has_name, is_some_and, core_names, label_names, kind_named, tasks_on, all_runnables, labels_written}
-use Rattle.cl_model.specs.Place.{entry_of, at_key, at_sub, at_spot}
-use Rattle.cl_model.specs.Refusals.{when, unless, in_order, each}
-use Rattle.cl_model.specs.Timing.{least_distance, greatest_jitter, deadline_under}
-use Rattle.cl_model.specs.ValidNames.{repeats}
 
 -- ---- a task and what it names
 

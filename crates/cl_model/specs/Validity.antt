@@ -3,19 +3,8 @@ use Rattle.std.specs.Prelude.{◌≡◌, ℕ, ◌+◌, Bool, ◌||◌, ◌==◌,
 use Rattle.std.specs.Option.{option_and_then}
 use Rattle.cl_model.specs.declared.place.Part.TheVariants as part
 use Rattle.cl_model.specs.declared.place.Key.TheVariants as key
-use Rattle.cl_model.specs.declared.place.Place.{Place}
-use Rattle.cl_model.specs.declared.refusal.Code.TheVariants.{M43, M44, M45, M46}
-use Rattle.cl_model.specs.declared.refusal.Refusal.{Refusal}
-use Rattle.cl_model.specs.declared.task.RunnableDef.{RunnableDef}
-use Rattle.cl_model.specs.declared.chain.ChainDef.{ChainDef}
-use Rattle.cl_model.specs.declared.chain.RequirementDef.{RequirementDef}
-use Rattle.cl_model.specs.declared.model.SystemModel.{SystemModel}
-use Rattle.cl_model.specs.Named.{has_name, is_some_and, chain_names, runnable_names, runnable_named, all_runnables}
-use Rattle.cl_model.specs.Place.{entry_of, at_key, at_spot}
-use Rattle.cl_model.specs.Ranges.{IsInRange}
-use Rattle.cl_model.specs.Refusals.{when, unless, in_order, each, first}
-use Rattle.cl_model.specs.ValidNames.{name_checks, stimulus_checks}
-use Rattle.cl_model.specs.ValidTasks.{task_checks, deadline_checks}
+use Rattle.cl_model.specs.{declared.{place.Place.Place, refusal.{Code.TheVariants.{M43, M44, M45, M46}, Refusal.Refusal}, task.RunnableDef.RunnableDef, chain.{ChainDef.ChainDef, RequirementDef.RequirementDef}, model.SystemModel.SystemModel}, Named.{has_name, is_some_and, chain_names}}
+use Rattle.cl_model.specs.{Named.{runnable_names, runnable_named, all_runnables}, Place.{entry_of, at_key, at_spot}, Ranges.IsInRange, Refusals.{when, unless, in_order, each, first}, ValidNames.{name_checks, stimulus_checks}, ValidTasks.{task_checks, deadline_checks}}
 
 -- ---- chains and requirements
 

@@ -1,8 +1,6 @@
 //! Chains of runnables linked by labels, and the requirements on them. Times are in ticks.
 ghost use Rattle.std.specs.Prelude.{◌≡◌};
-ghost use Rattle.cl_model.specs.Kinds.{length_word, requirement_word, is_delay};
-ghost use Rattle.cl_model.specs.Reading.Checks.{meaning_of};
-ghost use Rattle.cl_model.specs.Reading.Tables.{requirement_words};
+ghost use Rattle.cl_model.specs.{Kinds.{length_word, requirement_word, is_delay}, Reading.{Checks.meaning_of, Tables.requirement_words}};
 
 use crate::copying::TryCopy;
 use crate::list::List;

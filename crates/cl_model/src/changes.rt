@@ -1,7 +1,6 @@
 //! Changes of a model in place. What is changed is given by its number. Times are in ticks.
 ghost use Rattle.std.specs.Prelude.{◌≡◌, ◌<◌, length, All};
-ghost use Rattle.cl_model.specs.Groups.{IsStepOf};
-ghost use Rattle.cl_model.specs.Changes.{with_range, with_whole, with_kind, with_deadline, with_priority, with_priorities, with_place, with_access, without_task, without_chain, with_requirement, without_requirement};
+ghost use Rattle.cl_model.specs.{Groups.IsStepOf, Changes.{with_range, with_whole, with_kind, with_deadline, with_priority, with_priorities, with_place, with_access, without_task, without_chain, with_requirement, without_requirement}};
 
 use crate::chain::RequirementDef;
 use crate::group::Step;

@@ -1,12 +1,6 @@
 //! The groups of each chain of a valid model.
 ghost use Rattle.std.specs.Prelude.{◌≡◌, ◌<◌, ◌^◌, true, [], ◌++◌, map, length, IfOk, OnOk, All};
-ghost use Rattle.cl_model.specs.Groups.{groups, groups_of};
-ghost use Rattle.cl_model.specs.Named.{has_name, runnable_names, all_runnables};
-ghost use Rattle.cl_model.specs.NameSets.{AreNew};
-ghost use Rattle.cl_model.specs.Ranges.{IsTaskInRange};
-ghost use Rattle.cl_model.specs.Refusals.{each};
-ghost use Rattle.cl_model.specs.Inner.StepTable.{steps_in, steps_from, step_in, AreStepsOf, StepsAdded, HasSteps, StepsDropped};
-ghost use Rattle.cl_model.specs.ValidNames.{runnable_repeats};
+ghost use Rattle.cl_model.specs.{Groups.{groups, groups_of}, Named.{has_name, runnable_names, all_runnables}, NameSets.AreNew, Ranges.IsTaskInRange, Refusals.each, Inner.StepTable.{steps_in, steps_from, step_in, AreStepsOf, StepsAdded, HasSteps, StepsDropped}, ValidNames.runnable_repeats};
 ghost use Rattle.cl_model.specs.Validity.{IsValid};
 
 use crate::chain::ChainDef;

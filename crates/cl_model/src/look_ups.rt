@@ -1,11 +1,7 @@
 //! The tables that are kept beside a valid model, so that it answers in constant time.
 ghost use Rattle.std.specs.Prelude.{◌≡◌, ◌<◌, ◌^◌, [], ◌∷◌, ◌++◌, length, map, replicate, slice_index_or, slice_set, IfOk, OnOk, All};
 ghost use Rattle.std.specs.List.{range_with_len};
-ghost use Rattle.cl_model.specs.Named.{core_names, stimulus_names, kind_named};
-ghost use Rattle.cl_model.specs.ByNumber.{core_number, stimulus_number, greatest_time, tasks_of_core};
-ghost use Rattle.cl_model.specs.Ranges.{IsTaskInRange};
-ghost use Rattle.cl_model.specs.Inner.LookUps.{AreNamesOf, AreTaskTablesOf, AreLookUpsOf};
-ghost use Rattle.cl_model.specs.Validity.{IsValid};
+ghost use Rattle.cl_model.specs.{Named.{core_names, stimulus_names, kind_named}, ByNumber.{core_number, stimulus_number, greatest_time, tasks_of_core}, Ranges.IsTaskInRange, Inner.LookUps.{AreNamesOf, AreTaskTablesOf, AreLookUpsOf}, Validity.IsValid};
 
 mod changes;
 

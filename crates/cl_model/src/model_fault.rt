@@ -1,8 +1,6 @@
 //! Why there is no result for a model: the first refusal, or want of memory.
 ghost use Rattle.std.specs.Prelude.{◌≡◌, ◌++◌, ◌∷◌, [], OnOk};
-ghost use Rattle.cl_model.specs.Answers.{Answers};
-ghost use Rattle.cl_model.specs.Named.{has_name};
-ghost use Rattle.cl_model.specs.Refusals.{when, unless};
+ghost use Rattle.cl_model.specs.{Answers.Answers, Named.has_name, Refusals.{when, unless}};
 
 use crate::name::Name;
 use crate::name_set::NameSet;

@@ -1,8 +1,7 @@
 //! Sets of names, which are numbered and found by their bytes.
 ghost use Rattle.std.specs.Prelude.{◌≡◌, ◌<◌, ◌≤◌, [], not, remove, length, IfOk, OnOk, OnErr, IfSome, is_some};
 ghost use Rattle.std.specs.List.{remove_range};
-ghost use Rattle.cl_model.specs.Named.{has_name, index_of};
-ghost use Rattle.cl_model.specs.NameSets.{names_with};
+ghost use Rattle.cl_model.specs.{Named.{has_name, index_of}, NameSets.names_with};
 
 use crate::name::Name;
 use cl_time::NoMemory;

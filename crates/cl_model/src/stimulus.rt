@@ -1,7 +1,6 @@
 //! Stimuli: the patterns by which jobs of tasks arrive. Times are in ticks.
 ghost use Rattle.std.specs.Prelude.{◌≡◌};
-ghost use Rattle.cl_model.specs.Kinds.{is_periodic};
-ghost use Rattle.cl_model.specs.Timing.{least_distance, greatest_distance, greatest_jitter};
+ghost use Rattle.cl_model.specs.{Kinds.is_periodic, Timing.{least_distance, greatest_distance, greatest_jitter}};
 
 use crate::copying::TryCopy;
 use crate::name::Name;

@@ -1,10 +1,6 @@
 //! Tasks and the runnables that a job of a task executes. Times are in ticks.
 ghost use Rattle.std.specs.Prelude.{◌≡◌, ◌<◌};
-ghost use Rattle.cl_model.specs.Holds.{runnable_hold, task_hold};
-ghost use Rattle.cl_model.specs.Kinds.{access_word, is_timed};
-ghost use Rattle.cl_model.specs.Reading.Checks.{meaning_of};
-ghost use Rattle.cl_model.specs.Reading.Tables.{access_words};
-ghost use Rattle.cl_model.specs.Timing.{deadline_under};
+ghost use Rattle.cl_model.specs.{Holds.{runnable_hold, task_hold}, Kinds.{access_word, is_timed}, Reading.{Checks.meaning_of, Tables.access_words}, Timing.deadline_under};
 
 use crate::copying::TryCopy;
 use crate::list::List;

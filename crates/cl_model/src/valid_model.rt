@@ -1,11 +1,7 @@
 //! Valid models, which answer in constant time.
 ghost use Rattle.std.specs.Prelude.{◌≡◌, ◌<◌, ◌≤◌, length, slice_index_or, IfOk, IfErr, IfSome, is_some, All};
-ghost use Rattle.cl_model.specs.declared.limits.TheConstants.{MOST_STEPS};
-ghost use Rattle.cl_model.specs.Groups.{no_group, step_named, groups_at, IsStepOf, IsGroupOf};
-ghost use Rattle.cl_model.specs.ByNumber.{task_at, chain_at, requirement_at, core_at, core_of, stimulus_of, deadline_of, jitter_of, time_of, tasks_of_core, core_named, stimulus_named, task_named, chain_named, requirement_named};
-ghost use Rattle.cl_model.specs.Changes.{stimulus_at};
-ghost use Rattle.cl_model.specs.Named.{has_name, runnable_names, all_runnables};
-ghost use Rattle.cl_model.specs.Validity.{IsValid};
+ghost use Rattle.cl_model.specs.{declared.limits.TheConstants.MOST_STEPS, Groups.{no_group, step_named, groups_at, IsStepOf, IsGroupOf}, ByNumber.{task_at, chain_at, requirement_at, core_at, core_of, stimulus_of, deadline_of, jitter_of, time_of, tasks_of_core, core_named, stimulus_named}};
+ghost use Rattle.cl_model.specs.{ByNumber.{task_named, chain_named, requirement_named}, Changes.stimulus_at, Named.{has_name, runnable_names, all_runnables}, Validity.IsValid};
 
 mod chains;
 mod changes;

@@ -1,11 +1,8 @@
 -- A table that is lawful on all cores of a model is lawful.
 use Rattle.std.proofs.Common.{◌≡◌, List, Bool, true, false, length, replicate, ap, ◌∙◌, arith}
 use Rattle.std.proofs.lemmas.List.{get_or-replicate}
-use Rattle.cl_model.specs.declared.model.SystemModel.{SystemModel}
-use Rattle.cl_model.specs.Validity.{IsValid}
-use Rattle.cl_runs.specs.declared.job.JobTable.{JobTable}
-use Rattle.cl_runs.specs.SystemOf.{system_of}
-use Rattle.cl_runs.specs.Table.{IsLawful}
+use Rattle.cl_model.specs.{declared.model.SystemModel.SystemModel, Validity.IsValid}
+use Rattle.cl_runs.specs.{declared.job.JobTable.JobTable, SystemOf.system_of, Table.IsLawful}
 use Rattle.cl_runs.proofs.ModelSystem.{cores_are, system_sound}
 use Rattle.cl_run_data.specs.Parts.{is_among, IsLawfulOn}
 use Rattle.cl_gen.proofs.WishedTables.{lawful_on_all}

@@ -3,35 +3,15 @@ use Rattle.std.proofs.Common.{◌≡◌, ℕ, ◌-◌, ◌<◌, Option, Some, No
 use Rattle.std.specs.Prelude.{IfSome}
 use Rattle.std.specs.Option.{option_map}
 use Rattle.std.proofs.lemmas.List.Elements.{All-weaker}
-use Rattle.cl_model.specs.declared.chain.LengthKind.{LengthKind}
-use Rattle.cl_model.specs.declared.chain.LengthKind.TheVariants.{Reaction, Age, Reduced}
-use Rattle.cl_model.specs.declared.chain.RequirementKind.{RequirementKind}
-use Rattle.cl_model.specs.declared.chain.RequirementKind.TheVariants.{Length, Delay}
-use Rattle.cl_model.specs.declared.group.Group.{Group}
-use Rattle.cl_model.specs.declared.model.SystemModel.{SystemModel}
-use Rattle.cl_model.specs.Groups.{groups_at, group_at, IsGroupOf}
-use Rattle.cl_model.specs.Validity.{IsValid}
+use Rattle.cl_model.specs.{declared.{chain.{LengthKind.{LengthKind, TheVariants.{Reaction, Age, Reduced}}, RequirementKind.{RequirementKind, TheVariants.{Length, Delay}}}, group.Group.Group, model.SystemModel.SystemModel}, Groups.{groups_at, group_at, IsGroupOf}, Validity.IsValid}
 use Rattle.cl_model.proofs.GroupFacts.{groups_at_are}
-use Rattle.cl_runs.specs.TaskTiming.{System, timing_at}
-use Rattle.cl_runs.specs.SystemOf.{system_of}
-use Rattle.cl_runs.specs.Run.{Run}
+use Rattle.cl_runs.specs.{TaskTiming.{System, timing_at}, SystemOf.system_of, Run.Run, Delays.IsDelayChain, Measured.{IsMeasuredBy, IsMeasured}, MomentOrder.AreGroupsOf, Requirements.{IsChainOfKind, IsChainRequired, HasLength}, RunChains.run_moments}
 use Rattle.cl_runs.specs.Chains as chains
-use Rattle.cl_runs.specs.Delays.{IsDelayChain}
-use Rattle.cl_runs.specs.Measured.{IsMeasuredBy, IsMeasured}
-use Rattle.cl_runs.specs.MomentOrder.{AreGroupsOf}
-use Rattle.cl_runs.specs.Requirements.{IsChainOfKind, IsChainRequired, HasLength}
-use Rattle.cl_runs.specs.RunChains.{run_moments}
 use Rattle.cl_runs.proofs.ModelSystem.{count_is, system_sound}
 use Rattle.cl_run_data.specs.Parts.{is_among, IsLegalOn, ShowsGroups}
-use Rattle.cl_run_data.proofs.ShownTasks.{part_shows_groups}
-use Rattle.cl_run_data.proofs.AlikeChains.{same_required}
-use Rattle.cl_chain.specs.declared.job_chain.JobChain.{JobChain}
-use Rattle.cl_chain.specs.declared.job_chain.Measured.{Measured}
-use Rattle.cl_chain.specs.GreatestDelays.{IsGreatestDelayBy}
-use Rattle.cl_chain.specs.JobChains.{job_chain_of, option_of, measured_of}
-use Rattle.cl_near.specs.declared.chain_plan.ChainPlan.{ChainPlan}
-use Rattle.cl_near.specs.Plans.{IsPlanOfGroups}
-use Rattle.cl_near.specs.Inner.LongestChains.{longest_of_length}
+use Rattle.cl_run_data.proofs.{ShownTasks.part_shows_groups, AlikeChains.same_required}
+use Rattle.cl_chain.specs.{declared.job_chain.{JobChain.JobChain, Measured.Measured}, GreatestDelays.IsGreatestDelayBy, JobChains.{job_chain_of, option_of, measured_of}}
+use Rattle.cl_near.specs.{declared.chain_plan.ChainPlan.ChainPlan, Plans.IsPlanOfGroups, Inner.LongestChains.longest_of_length}
 
 -- a longest chain is a chain of its kind
 longest_is_chain : (IsChain : chains.JobChain → Type 0) (job_of : chains.JobChain → ℕ) (found : Option JobChain)

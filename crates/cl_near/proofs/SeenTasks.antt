@@ -1,27 +1,12 @@
 -- What is seen of a task in a run is so in the legal run that it shows. Times are in ticks.
 use Rattle.std.proofs.Common.{◌≡◌, ℕ, ◌+◌, ◌-◌, ◌<◌, ◌≤◌, Option, Some, None, List, length, get_or, ap, subst, arith}
-use Rattle.cl_model.specs.declared.model.SystemModel.{SystemModel}
-use Rattle.cl_model.specs.ByNumber.{deadline_of}
-use Rattle.cl_model.specs.Validity.{IsValid}
-use Rattle.cl_runs.specs.declared.job.Job.{Job}
-use Rattle.cl_runs.specs.TaskTiming.{Timing, timing_at}
-use Rattle.cl_runs.specs.SystemOf.{system_of}
-use Rattle.cl_runs.specs.Table.{job_at}
-use Rattle.cl_runs.specs.Run.{Run, jobs_of}
-use Rattle.cl_runs.specs.Moments.{JobFinishes}
-use Rattle.cl_runs.proofs.ModelSystem.{timing_is, count_is, system_sound}
-use Rattle.cl_runs.proofs.StartsFinishes.{finishes_once}
-use Rattle.cl_runs.proofs.RunArrivals.{released_late}
-use Rattle.cl_runs.proofs.JobProgress.{finishes_late}
-use Rattle.cl_runs.proofs.Work.{places_rise}
+use Rattle.cl_model.specs.{declared.model.SystemModel.SystemModel, ByNumber.deadline_of, Validity.IsValid}
+use Rattle.cl_runs.specs.{declared.job.Job.Job, TaskTiming.{Timing, timing_at}, SystemOf.system_of, Table.job_at, Run.{Run, jobs_of}, Moments.JobFinishes}
+use Rattle.cl_runs.proofs.{ModelSystem.{timing_is, count_is, system_sound}, StartsFinishes.finishes_once, RunArrivals.released_late, JobProgress.finishes_late, Work.places_rise}
 use Rattle.cl_run_data.specs.Parts.{ShowsTask}
-use Rattle.cl_run_data.proofs.AlikeRuns.{alike_back}
-use Rattle.cl_run_data.proofs.AlikeMoments.{jobs_alike, job_finishes_alike}
-use Rattle.cl_check.specs.declared.job_ends.End.TheVariants.{Finish}
-use Rattle.cl_check.specs.JobMoments.{IsMomentOf, AreEndsOfJobs}
-use Rattle.cl_near.specs.declared.task_seen.SeenOfTask.{SeenOfTask}
-use Rattle.cl_near.specs.Seen.{time_due, MissesDeadline, TakesSoLong, IsSeenOfTask}
-use Rattle.cl_near.specs.Inner.SeenJobs.{IsMissed, IsSeenOfJobs}
+use Rattle.cl_run_data.proofs.{AlikeRuns.alike_back, AlikeMoments.{jobs_alike, job_finishes_alike}}
+use Rattle.cl_check.specs.{declared.job_ends.End.TheVariants.Finish, JobMoments.{IsMomentOf, AreEndsOfJobs}}
+use Rattle.cl_near.specs.{declared.task_seen.SeenOfTask.SeenOfTask, Seen.{time_due, MissesDeadline, TakesSoLong, IsSeenOfTask}, Inner.SeenJobs.{IsMissed, IsSeenOfJobs}}
 
 module _ (model : SystemModel) (valid : IsValid model) (task : ℕ) (is : task < length model.tasks) (run : Run)
     (shows : ShowsTask (system_of model) task run) where

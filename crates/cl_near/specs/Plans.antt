@@ -1,19 +1,13 @@
 -- What plans of runs keep: the cores that the runs are made on hold what they are to show. And the window by which the run
 -- of a task is planned. Times are in ticks, and moments may lie before 0.
 use Rattle.std.specs.Prelude.{◌≡◌, ℕ, ◌*◌, ◌<◌, pos, ◌+ℤ◌, true, List, length}
-use Rattle.cl_model.specs.declared.group.Group.{Group}
-use Rattle.cl_model.specs.declared.limits.TheConstants.{MOST_TICKS}
-use Rattle.cl_model.specs.declared.model.SystemModel.{SystemModel}
-use Rattle.cl_model.specs.Groups.{group_at}
-use Rattle.cl_runs.specs.TaskTiming.{System, timing_at}
-use Rattle.cl_runs.specs.SystemOf.{system_of}
+use Rattle.cl_model.specs.{declared.{group.Group.Group, limits.TheConstants.MOST_TICKS, model.SystemModel.SystemModel}, Groups.group_at}
+use Rattle.cl_runs.specs.{TaskTiming.{System, timing_at}, SystemOf.system_of}
 use Rattle.cl_run_data.specs.Parts.{is_among}
 use Rattle.cl_stim.specs.Integers.{IsIntegerWithin}
 use Rattle.cl_cycle.specs.Cycles.{cycle_of}
-use Rattle.cl_resp.specs.declared.worst.WorstWindow.{WorstWindow}
-use Rattle.cl_resp.specs.Worst.{IsWorstWindowOf}
-use Rattle.cl_near.specs.declared.chain_plan.ChainPlan.{ChainPlan}
-use Rattle.cl_near.specs.declared.task_plan.TaskPlan.{TaskPlan}
+use Rattle.cl_resp.specs.{declared.worst.WorstWindow.WorstWindow, Worst.IsWorstWindowOf}
+use Rattle.cl_near.specs.declared.{chain_plan.ChainPlan.ChainPlan, task_plan.TaskPlan.TaskPlan}
 
 -- the core of each group is among those of the plan
 abbrev pub IsPlanOfGroups : SystemModel → List Group → ChainPlan → Type 0

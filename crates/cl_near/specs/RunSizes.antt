@@ -1,10 +1,8 @@
 -- How large runs are. Times are in ticks.
 use Rattle.std.specs.Prelude.{◌≡◌, ℕ, ◌<◌, ◌≤◌, Bool, List}
 use Rattle.cl_model.specs.declared.model.SystemModel.{SystemModel}
-use Rattle.cl_gen.specs.declared.limits.TheConstants.{MOST_RUN_TICKS, MOST_EXECUTIONS}
-use Rattle.cl_gen.specs.Count.{executions_on}
-use Rattle.cl_near.specs.declared.run_size.RunSize.{RunSize}
-use Rattle.cl_near.specs.declared.run_size.RunSize.TheVariants.{TooLong, TooMany, Fits}
+use Rattle.cl_gen.specs.{declared.limits.TheConstants.{MOST_RUN_TICKS, MOST_EXECUTIONS}, Count.executions_on}
+use Rattle.cl_near.specs.declared.run_size.RunSize.{RunSize, TheVariants.{TooLong, TooMany, Fits}}
 
 -- a run has few enough ticks, and so many executions are counted
 pub record CountsExecutions (model : SystemModel) (ticks : ℕ) (cores : List Bool) (count : ℕ) : Type 0 where

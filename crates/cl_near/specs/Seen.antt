@@ -1,14 +1,8 @@
 -- What is seen of tasks: each is so in some legal run. Times are in ticks.
 use Rattle.std.specs.Prelude.{◌≡◌, ℕ, ◌+◌, ◌<◌, ◌≤◌, length}
 use Rattle.cl_model.specs.declared.model.SystemModel.{SystemModel}
-use Rattle.cl_runs.specs.TaskTiming.{timing_at}
-use Rattle.cl_runs.specs.SystemOf.{system_of}
-use Rattle.cl_runs.specs.Table.{job_at}
-use Rattle.cl_runs.specs.Run.{Run, jobs_of}
-use Rattle.cl_runs.specs.Legal.{IsLegal}
-use Rattle.cl_runs.specs.Moments.{JobFinishes}
-use Rattle.cl_near.specs.declared.task_seen.SeenOfTask.{SeenOfTask}
-use Rattle.cl_near.specs.declared.task_seen.SeenOfTask.TheVariants.{Missed, Response}
+use Rattle.cl_runs.specs.{TaskTiming.timing_at, SystemOf.system_of, Table.job_at, Run.{Run, jobs_of}, Legal.IsLegal, Moments.JobFinishes}
+use Rattle.cl_near.specs.declared.task_seen.SeenOfTask.{SeenOfTask, TheVariants.{Missed, Response}}
 
 -- when a job of a run is to have finished
 abbrev pub time_due : SystemModel → Run → (task job : ℕ) → ℕ

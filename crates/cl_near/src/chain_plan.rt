@@ -1,8 +1,7 @@
 //! What a run of a chain is to be so that it comes near to a bound. Times are in ticks.
 ghost use Rattle.std.specs.Prelude.{◌≡◌, ◌<◌, ◌≤◌, length, All, IfOk};
 ghost use Rattle.cl_bound.specs.Hops.{IsNear};
-ghost use Rattle.cl_model.specs.declared.limits.TheConstants.{MOST_STEPS};
-ghost use Rattle.cl_model.specs.Groups.{IsGroupOf};
+ghost use Rattle.cl_model.specs.{declared.limits.TheConstants.MOST_STEPS, Groups.IsGroupOf};
 ghost use Rattle.cl_near.specs.Plans.{IsPlanOfGroups};
 
 use crate::chain_jobs::ChainJobs;

@@ -3,14 +3,10 @@ ghost use Rattle.std.specs.Prelude.{◌≡◌, ◌⊎◌, ◌-◌, ◌<◌, ◌�
 ghost use Rattle.std.specs.Option.{option_map};
 ghost use Rattle.cl_gen.specs.declared.limits.TheConstants.{MOST_RUN_TICKS};
 ghost use Rattle.cl_model.specs.Groups.{groups_at};
-ghost use Rattle.cl_runs.specs.SystemOf.{system_of};
-ghost use Rattle.cl_runs.specs.Requirements.{IsChainRequired, HasLength};
-ghost use Rattle.cl_runs.specs.Run.{IsInForm};
+ghost use Rattle.cl_runs.specs.{SystemOf.system_of, Requirements.{IsChainRequired, HasLength}, Run.IsInForm};
 ghost use Rattle.cl_run_data.specs.Parts.{IsLawfulOn, HasNoOtherJobs, ShowsGroups};
-ghost use Rattle.cl_chain.specs.JobChains.{job_chain_of};
-ghost use Rattle.cl_chain.specs.declared.job_chain.JobChain.{JobChain};
-ghost use Rattle.cl_near.specs.Plans.{IsPlanOfGroups};
-ghost use Rattle.cl_near.specs.Inner.LongestChains.{longest_of_length};
+ghost use Rattle.cl_chain.specs.{JobChains.job_chain_of, declared.job_chain.JobChain.JobChain};
+ghost use Rattle.cl_near.specs.{Plans.IsPlanOfGroups, Inner.LongestChains.longest_of_length};
 
 use crate::budget::Budget;
 use crate::chain_plan::ChainPlan;

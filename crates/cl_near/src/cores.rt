@@ -1,7 +1,6 @@
 //! The cores that a run is made on, marked by their numbers.
 ghost use Rattle.std.specs.Prelude.{◌≡◌, ◌<◌, true, false, length, replicate, slice_set, All, IfOk};
-ghost use Rattle.cl_model.specs.ByNumber.{core_of};
-ghost use Rattle.cl_model.specs.Groups.{IsGroupOf};
+ghost use Rattle.cl_model.specs.{ByNumber.core_of, Groups.IsGroupOf};
 ghost use Rattle.cl_run_data.specs.Parts.{is_among};
 ghost use Rattle.cl_near.specs.Inner.Cores.{AreMarked};
 

@@ -6,9 +6,7 @@ ghost use Rattle.cl_model.specs.Validity.{IsValid};
 ghost use Rattle.cl_phase.specs.Whole.{LATEST_STEADY};
 ghost use Rattle.cl_runs.specs.SystemOf.{system_of};
 ghost use Rattle.cl_stim.specs.Integers.{IsIntegerWithin};
-ghost use Rattle.cl_resp.specs.ByPhase.{response_by_phase};
-ghost use Rattle.cl_resp.specs.Response.{Response};
-ghost use Rattle.cl_resp.specs.Worst.{IsWorstWindowOf};
+ghost use Rattle.cl_resp.specs.{ByPhase.response_by_phase, Response.Response, Worst.IsWorstWindowOf};
 ghost use Rattle.cl_near.specs.Plans.{IsPlanOfTask, IsWindowOfRun, IsWindowNear};
 
 use crate::blocker::{Blocker, blocker_of};

@@ -1,16 +1,10 @@
 //! What a task does in a run that comes near to its response. Times are in ticks.
 ghost use Rattle.std.specs.Prelude.{◌≡◌, ℕ, ◌⊎◌, ◌+◌, ◌-◌, ◌<◌, ◌≤◌, true, length, IfOk};
 ghost use Rattle.cl_gen.specs.declared.limits.TheConstants.{MOST_RUN_TICKS};
-ghost use Rattle.cl_runs.specs.SystemOf.{system_of};
-ghost use Rattle.cl_runs.specs.Run.{IsInForm};
+ghost use Rattle.cl_runs.specs.{SystemOf.system_of, Run.IsInForm, TaskTiming.timing_at};
 ghost use Rattle.cl_run_data.specs.Parts.{IsLawfulOn, HasNoOtherJobs, ShowsTask};
-ghost use Rattle.cl_runs.specs.TaskTiming.{timing_at};
-ghost use Rattle.cl_check.specs.declared.job_ends.End.TheVariants.{Finish};
-ghost use Rattle.cl_check.specs.JobMoments.{AreEndsOfJobs};
-ghost use Rattle.cl_near.specs.Plans.{IsPlanOfTask};
-ghost use Rattle.cl_near.specs.Seen.{IsSeenOfTask};
-ghost use Rattle.cl_near.specs.Inner.SeenJobs.{IsMissed, HasTaken, IsSeenOfJobs};
-ghost use Rattle.cl_near.specs.declared.task_seen.SeenOfTask.TheVariants.{Missed, Response};
+ghost use Rattle.cl_check.specs.{declared.job_ends.End.TheVariants.Finish, JobMoments.AreEndsOfJobs};
+ghost use Rattle.cl_near.specs.{Plans.IsPlanOfTask, Seen.IsSeenOfTask, Inner.SeenJobs.{IsMissed, HasTaken, IsSeenOfJobs}, declared.task_seen.SeenOfTask.TheVariants.{Missed, Response}};
 
 use crate::budget::Budget;
 use crate::run_size::{RunSize, size_of_run};

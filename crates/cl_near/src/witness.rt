@@ -2,10 +2,8 @@
 ghost use Rattle.std.specs.Prelude.{◌≡◌, ◌<◌, ◌≤◌, true, length, replicate, IfOk};
 ghost use Rattle.cl_gen.specs.declared.limits.TheConstants.{MOST_RUN_TICKS};
 ghost use Rattle.cl_model.specs.Groups.{groups_at};
-ghost use Rattle.cl_runs.specs.SystemOf.{system_of};
-ghost use Rattle.cl_runs.specs.Table.{IsLawful};
-ghost use Rattle.cl_near.specs.Plans.{IsPlanOfGroups};
-ghost use Rattle.cl_near.specs.RunSizes.{IsSizeOfRun};
+ghost use Rattle.cl_runs.specs.{SystemOf.system_of, Table.IsLawful};
+ghost use Rattle.cl_near.specs.{Plans.IsPlanOfGroups, RunSizes.IsSizeOfRun};
 
 use crate::chain_plan::ChainPlan;
 use crate::chain_seen::{self, BothLengths};

@@ -2,17 +2,10 @@
 use Rattle.std.proofs.Common.{◌≡◌, ℕ, suc, ◌-◌, ◌<◌, ◌⊎◌, ℤ, inl, inr, Option, length, refl, sym, ap, ◌∙◌, arith}
 use Rattle.std.specs.Prelude.{pos, ◌-ℤ◌, slice_index}
 use Rattle.std.proofs.lemmas.Bool.{cases_lt, cases_eq}
-use Rattle.cl_runs.specs.TaskTiming.{System, timing_at}
-use Rattle.cl_runs.specs.Table.{job_at}
-use Rattle.cl_runs.specs.Work.{work_through}
-use Rattle.cl_runs.specs.Run.{Run, jobs_of, executed}
-use Rattle.cl_runs.specs.Moments.{Finishes, JobFinishes}
-use Rattle.cl_runs.proofs.FirstBelow.{IsFirst, both_or_not, first_or_none}
-use Rattle.cl_runs.proofs.StartsFinishes.{finishes_once}
+use Rattle.cl_runs.specs.{TaskTiming.{System, timing_at}, Table.job_at, Work.work_through, Run.{Run, jobs_of, executed}, Moments.{Finishes, JobFinishes}}
+use Rattle.cl_runs.proofs.{FirstBelow.{IsFirst, both_or_not, first_or_none}, StartsFinishes.finishes_once}
 use Rattle.cl_chain.proofs.DecidedMoments.{Decided, lt_or_not}
-use Rattle.cl_observe.specs.declared.values.Spread.{Spread}
-use Rattle.cl_observe.specs.declared.task_shown.ShownTask.{ShownTask}
-use Rattle.cl_observe.specs.Shown.{job_due, MissesItsDeadline, HasResponseIn, HasJitterIn, HasTimeIn, IsShownTask, IsShownTime}
+use Rattle.cl_observe.specs.{declared.{values.Spread.Spread, task_shown.ShownTask.ShownTask}, Shown.{job_due, MissesItsDeadline, HasResponseIn, HasJitterIn, HasTimeIn, IsShownTask, IsShownTime}}
 use Rattle.cl_observe.proofs.SomeValue.{some_count, AreNumbers, some_greatest, some_spread}
 
 module _ (system : System) (run : Run) (task : ℕ) where

@@ -3,10 +3,7 @@ use Rattle.std.proofs.Common.{ℕ, zero, suc, ◌<◌, ◌≤◌, inl, inr, List
 use Rattle.std.specs.Prelude.{All}
 use Rattle.std.proofs.lemmas.Bool.{cases_eq}
 use Rattle.std.proofs.lemmas.List.Elements.{All-nil, All-cons, All-head, All-tail}
-use Rattle.cl_runs.specs.declared.job.Job.{Job}
-use Rattle.cl_runs.specs.Table.{job_at}
-use Rattle.cl_runs.specs.TaskTiming.{System}
-use Rattle.cl_runs.specs.Run.{Run, jobs_of}
+use Rattle.cl_runs.specs.{declared.job.Job.Job, Table.job_at, TaskTiming.System, Run.{Run, jobs_of}}
 use Rattle.cl_runs.proofs.FirstBelow.{both_or_not}
 use Rattle.cl_check.specs.InOrder.{AreTimesPositive, DoArrivalsRise, AreJobsInOrder, IsRunInOrder}
 use Rattle.cl_chain.proofs.DecidedMoments.{Decided, lt_or_not}

@@ -3,23 +3,11 @@ use Rattle.std.proofs.Common.{◌≡◌, ℕ, zero, suc, ◌+◌, ◌<◌, ◌�
 use Rattle.std.specs.Prelude.{nat_le, nat_lt, ◌&&◌}
 use Rattle.std.specs.List.{All, flat_map, range_with_len}
 use Rattle.std.proofs.lemmas.List.Elements.{All-nil, All-cons, All-append, All-head}
-use Rattle.cl_model.specs.declared.stimulus.StimulusKind.{StimulusKind}
-use Rattle.cl_model.specs.Timing.{greatest_jitter}
-use Rattle.cl_runs.specs.declared.job.Job.{Job}
-use Rattle.cl_runs.specs.declared.job.JobTable.{JobTable}
-use Rattle.cl_runs.specs.Pattern.{first_least, first_greatest, least_gap, greatest_gap}
-use Rattle.cl_runs.specs.Table.{table_jobs}
-use Rattle.cl_runs.specs.TaskTiming.{TimeRange, System, timing_at, IsSound}
-use Rattle.cl_runs.specs.Run.{Run, entry_at, executed, IsInForm}
-use Rattle.cl_runs.specs.Legal.{IsScheduled, IsLegal}
-use Rattle.cl_runs.proofs.Executed.{cases_entry}
-use Rattle.cl_runs.proofs.FirstBelow.{IsFirst, first_or_none}
-use Rattle.cl_runs.proofs.Scheduling.{scheduled_once, scheduled_some}
-use Rattle.cl_check.specs.declared.run_fault.Rule.{Rule}
-use Rattle.cl_check.specs.declared.run_fault.Rule.TheVariants.{Schedule}
-use Rattle.cl_check.specs.declared.run_fault.RunFault.{RunFault}
-use Rattle.cl_check.specs.declared.run_fault.RunFault.TheVariants.{Illegal, NoMemory}
-use Rattle.cl_check.specs.Legality.{fault_unless, first_fault, are_in_range, arrival_faults, release_faults, time_faults, job_faults, faults_from, faults_of_task, table_faults, IsScheduleKept, IsFirstOnCore, BreaksSchedule, IsFirstBroken}
+use Rattle.cl_model.specs.{declared.stimulus.StimulusKind.StimulusKind, Timing.greatest_jitter}
+use Rattle.cl_runs.specs.{declared.job.{Job.Job, JobTable.JobTable}, Pattern.{first_least, first_greatest, least_gap, greatest_gap}, Table.table_jobs, TaskTiming.{TimeRange, System, timing_at, IsSound}, Run.{Run, entry_at, executed, IsInForm}, Legal.{IsScheduled, IsLegal}}
+use Rattle.cl_runs.proofs.{Executed.cases_entry, FirstBelow.{IsFirst, first_or_none}, Scheduling.{scheduled_once, scheduled_some}}
+use Rattle.cl_check.specs.{declared.run_fault.{Rule.{Rule, TheVariants.Schedule}, RunFault.{RunFault, TheVariants.{Illegal, NoMemory}}}, Legality.{fault_unless, first_fault, are_in_range, arrival_faults, release_faults, time_faults, job_faults, faults_from, faults_of_task, table_faults}}
+use Rattle.cl_check.specs.Legality.{IsScheduleKept, IsFirstOnCore, BreaksSchedule, IsFirstBroken}
 use Rattle.cl_check.proofs.BrokenRules.{checked_legal}
 
 abbrev Decided : Type 0 → Type 0

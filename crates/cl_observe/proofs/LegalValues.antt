@@ -1,49 +1,24 @@
 -- What a legal run shows lies within what is found of its model.
-use Rattle.std.proofs.Common.{◌≡◌, ℕ, ◌+◌, ◌-◌, ◌<◌, ◌≤◌, ℤ, inl, inr, Option, Some, None, List, length, refl, ap, subst, ◌∙◌, arith}
+use Rattle.std.proofs.Common.{◌≡◌, ℕ, ◌+◌, ◌<◌, ◌≤◌, ℤ, inl, inr, Option, Some, None, List, length, refl, ap, subst, ◌∙◌, arith}
 use Rattle.std.specs.Prelude.{pos, ◌-ℤ◌, ◌≤ℤ◌, slice_index, slice_index_or}
 use Rattle.std.proofs.lemmas.Bool.{cases_lt}
 use Rattle.std.proofs.lemmas.Int.{ints}
 use Rattle.std.proofs.lemmas.List.{get_or-map}
-use Rattle.cl_model.specs.declared.model.SystemModel.{SystemModel}
-use Rattle.cl_model.specs.declared.chain.RequirementKind.{RequirementKind}
-use Rattle.cl_model.specs.declared.chain.RequirementKind.TheVariants.{Length, Delay}
-use Rattle.cl_model.specs.declared.chain.LengthKind.TheVariants.{Reaction, Age, Reduced}
-use Rattle.cl_model.specs.Timing.{greatest_jitter}
-use Rattle.cl_model.specs.ByNumber.{task_at, runnable_at, no_runnable, jitter_of}
-use Rattle.cl_model.specs.Groups.{groups_at}
+use Rattle.cl_model.specs.{declared.{model.SystemModel.SystemModel, chain.{RequirementKind.{RequirementKind, TheVariants.{Length, Delay}}, LengthKind.TheVariants.{Reaction, Age, Reduced}}}, Timing.greatest_jitter, ByNumber.{task_at, runnable_at, no_runnable, jitter_of}, Groups.groups_at}
 use Rattle.cl_model.specs.Validity.{IsValid}
-use Rattle.cl_runs.specs.TaskTiming.{TimeRange, Timing, timing_at, no_range, range_at}
-use Rattle.cl_runs.specs.SystemOf.{system_of, range_of}
-use Rattle.cl_runs.specs.Table.{job_at, no_job, LiesIn}
-use Rattle.cl_runs.specs.Run.{Run, jobs_of}
-use Rattle.cl_runs.specs.Legal.{IsLegal}
-use Rattle.cl_runs.specs.Chains.{JobChain, chain_length, first_job, last_job, IsForwardChain, IsAgeChain, IsReducedChain}
-use Rattle.cl_runs.specs.RunChains.{run_moments}
-use Rattle.cl_runs.specs.Delays.{IsDelayChain}
-use Rattle.cl_runs.specs.Measured.{IsMeasuredBy}
-use Rattle.cl_runs.proofs.ModelSystem.{timing_is, count_is, ranges_are, range_count_is, system_sound}
-use Rattle.cl_runs.proofs.RunArrivals.{released_late, released_within}
-use Rattle.cl_runs.proofs.StartsFinishes.{finishes_once}
-use Rattle.cl_runs.proofs.ZippedLists.{zip_at}
+use Rattle.cl_runs.specs.{TaskTiming.{TimeRange, Timing, timing_at, no_range, range_at}, SystemOf.{system_of, range_of}, Table.{job_at, no_job, LiesIn}, Run.{Run, jobs_of}, Legal.IsLegal, Chains.{JobChain, chain_length, first_job, last_job, IsForwardChain, IsAgeChain, IsReducedChain}}
+use Rattle.cl_runs.specs.{RunChains.run_moments, Delays.IsDelayChain, Measured.IsMeasuredBy}
+use Rattle.cl_runs.proofs.{ModelSystem.{timing_is, count_is, ranges_are, range_count_is, system_sound}, RunArrivals.{released_late, released_within}, StartsFinishes.finishes_once, ZippedLists.zip_at}
 use Rattle.cl_resp.specs.Response.{Response}
-use Rattle.cl_bound.specs.declared.answer.TaskAnswer.{TaskAnswer}
+use Rattle.cl_bound.specs.{declared.answer.TaskAnswer.TaskAnswer, Answers.answer_at, Promises.AreAtLeast, Bounds.Lengths}
 use Rattle.cl_bound.specs.declared.answer.TaskAnswer.TheVariants as task_answer
-use Rattle.cl_bound.specs.Answers.{answer_at}
-use Rattle.cl_bound.specs.Promises.{AreAtLeast}
-use Rattle.cl_bound.specs.Bounds.{Lengths}
-use Rattle.cl_analyse.specs.declared.findings.ChainAnswer.{ChainAnswer}
+use Rattle.cl_analyse.specs.{declared.findings.ChainAnswer.ChainAnswer, ChainAnswers.chain_answer_at, Verdicts.limited_bound}
 use Rattle.cl_analyse.specs.declared.findings.ChainAnswer.TheVariants as chain_answer
-use Rattle.cl_analyse.specs.ChainAnswers.{chain_answer_at}
-use Rattle.cl_analyse.specs.Verdicts.{limited_bound}
 use Rattle.cl_chain.specs.GreatestDelays.{IsGreatestDelayBy}
 use Rattle.cl_tight.specs.TightFindings.{tight_findings_of}
 use Rattle.cl_tight.proofs.TightLaws.{tight_findings_safe}
-use Rattle.cl_observe.specs.declared.values.GreatestResponse.{GreatestResponse}
-use Rattle.cl_observe.specs.declared.values.Spread.{Spread}
-use Rattle.cl_observe.specs.Values.{IsGreatestResponseOf, IsSpreadOf}
-use Rattle.cl_observe.specs.Shown.{HasResponseIn, HasJitterIn, HasTimeIn}
-use Rattle.cl_observe.specs.Observed.{response_number, response_bound}
-use Rattle.cl_observe.specs.Within.{IsNotAbove, AreInside, IsTaskWithin, IsLengthWithin, IsChainWithin, IsWithinFindings}
+use Rattle.cl_observe.specs.{declared.values.{GreatestResponse.GreatestResponse, Spread.Spread}, Values.{IsGreatestResponseOf, IsSpreadOf}, Shown.{HasResponseIn, HasJitterIn, HasTimeIn}, Observed.{response_number, response_bound}, Within.{IsNotAbove, AreInside, IsTaskWithin}}
+use Rattle.cl_observe.specs.Within.{IsLengthWithin, IsChainWithin, IsWithinFindings}
 
 some_same : {X : Type 0} (a b : X) → Some a ≡ Some b → a ≡ b
 some_same a b is = cc

@@ -3,16 +3,12 @@ use Rattle.std.proofs.Common.{◌≡◌, ℕ, ◌+◌, ◌<◌, ◌≤◌, ℤ, 
 use Rattle.std.specs.Prelude.{pos, ◌-ℤ◌, int_lt, cond, slice_index}
 use Rattle.std.specs.Int.{from_bool}
 use Rattle.std.proofs.lemmas.List.{get_or_past}
-use Rattle.cl_runs.specs.declared.job.Job.{Job}
-use Rattle.cl_runs.specs.Table.{job_at}
+use Rattle.cl_runs.specs.{declared.job.Job.Job, Table.job_at}
 use Rattle.std.proofs.lemmas.Bool.{cases_lt}
 use Rattle.std.proofs.lemmas.Int.{ints}
 use Rattle.std.proofs.Math.Numerals.{add-one}
-use Rattle.cl_observe.specs.declared.values.GreatestResponse.{GreatestResponse}
-use Rattle.cl_observe.specs.declared.values.Spread.{Spread}
-use Rattle.cl_observe.specs.Values.{CountsBelow, IsGreatestResponseOf, IsSpreadOf}
-use Rattle.cl_observe.specs.Inner.Choices.{or_response, or_number, or_finish, or_time}
-use Rattle.cl_observe.specs.Inner.JobLists.{finish_at, HasListedResponse, HasListedJitter, HasListedTime, HasBelow}
+use Rattle.cl_observe.specs.{declared.values.{GreatestResponse.GreatestResponse, Spread.Spread}, Values.{CountsBelow, IsGreatestResponseOf, IsSpreadOf}, Inner.{Choices.{or_response, or_number, or_finish, or_time}, JobLists.{finish_at, HasListedResponse, HasListedJitter, HasListedTime}}}
+use Rattle.cl_observe.specs.Inner.JobLists.{HasBelow}
 use Rattle.cl_observe.proofs.OneValue.{greatest_as, spread_as}
 
 -- ---- counts

@@ -4,14 +4,6 @@ use Rattle.std.proofs.lemmas.List.{append_assoc, append-nil}
 use Rattle.std.proofs.Math.Numerals.{add-one}
 use Rattle.cl_observe.specs.Observed.{GoesOnWith, IsMadeOf}
 
--- a piece is put
-pub goes_on : (Is : List ℕ → Type 0) (old new piece : List ℕ) → Is piece → new ≡ old ++ piece → GoesOnWith Is old new
-goes_on Is old new piece is joined = record { piece = piece; is = is; joined = joined }
-
--- what goes on with one kind of piece goes on with each that it is
-pub goes_on_as : (Is Be : List ℕ → Type 0) → ((piece : List ℕ) → Is piece → Be piece) → (old new : List ℕ) → GoesOnWith Is old new → GoesOnWith Be old new
-goes_on_as Is Be to old new goes = record { piece = goes.piece; is = to goes.piece goes.is; joined = goes.joined }
-
 module _ (Is : ℕ → List ℕ → Type 0) where
   -- a text has no pieces yet
   pub none_made : (old : List ℕ) → GoesOnWith (IsMadeOf Is 0) old old

@@ -3,27 +3,16 @@ use Rattle.std.proofs.Common.{◌≡◌, ◌⊎◌, ℕ, inl, inr, Option, Some,
 use Rattle.std.specs.Prelude.{pos, ◌-ℤ◌, codes}
 use Rattle.std.proofs.lemmas.Int.{ints}
 use Rattle.cl_text.specs.Line.{line}
-use Rattle.cl_model.specs.declared.model.SystemModel.{SystemModel}
-use Rattle.cl_model.specs.Groups.{groups_at}
-use Rattle.cl_runs.specs.Run.{Run, jobs_of}
-use Rattle.cl_runs.specs.SystemOf.{system_of}
-use Rattle.cl_runs.specs.Chains.{JobChain}
-use Rattle.cl_runs.specs.RunChains.{run_moments}
-use Rattle.cl_runs.specs.Measured.{Measured}
-use Rattle.cl_runs.proofs.MeasuredOnce.{measured_once}
-use Rattle.cl_runs.proofs.OrderedMoments.{run_unique}
-use Rattle.cl_bound.specs.declared.answer.TaskAnswer.{TaskAnswer}
-use Rattle.cl_bound.specs.Answers.{answer_at}
-use Rattle.cl_analyse.specs.declared.findings.ChainAnswer.{ChainAnswer}
-use Rattle.cl_analyse.specs.ChainAnswers.{chain_answer_at}
+use Rattle.cl_model.specs.{declared.model.SystemModel.SystemModel, Groups.groups_at}
+use Rattle.cl_runs.specs.{Run.{Run, jobs_of}, SystemOf.system_of, Chains.JobChain, RunChains.run_moments, Measured.Measured}
+use Rattle.cl_runs.proofs.{MeasuredOnce.measured_once, OrderedMoments.run_unique}
+use Rattle.cl_bound.specs.{declared.answer.TaskAnswer.TaskAnswer, Answers.answer_at}
+use Rattle.cl_analyse.specs.{declared.findings.ChainAnswer.ChainAnswer, ChainAnswers.chain_answer_at}
 use Rattle.cl_chain.specs.GreatestDelays.{IsGreatestDelayBy}
 use Rattle.cl_tight.specs.TightFindings.{tight_findings_of}
-use Rattle.cl_observe.specs.declared.task_shown.ShownTask.{ShownTask}
-use Rattle.cl_observe.specs.Shown.{MissesItsDeadline, HasResponseIn, HasJitterIn, HasTimeIn, IsShownTask}
-use Rattle.cl_observe.specs.Observed.{runnable_line, shown_line, jitter_line, length_of, kind_length_lines, IsTimeLine, IsTaskText, IsChainText, IsShownInOrder, IsUnordered, IsObservationOf}
-use Rattle.cl_observe.proofs.OneValue.{counts_once, greatest_once, spread_once}
-use Rattle.cl_observe.proofs.OneRule.{one_legality}
-use Rattle.cl_observe.proofs.MadeTexts.{made_once}
+use Rattle.cl_observe.specs.{declared.task_shown.ShownTask.ShownTask, Shown.{MissesItsDeadline, HasResponseIn, HasJitterIn, HasTimeIn, IsShownTask}, Observed.{runnable_line, shown_line, jitter_line, length_of, kind_length_lines, IsTimeLine, IsTaskText, IsChainText, IsShownInOrder}}
+use Rattle.cl_observe.specs.Observed.{IsUnordered, IsObservationOf}
+use Rattle.cl_observe.proofs.{OneValue.{counts_once, greatest_once, spread_once}, OneRule.one_legality, MadeTexts.made_once}
 
 module _ (model : SystemModel) (run : Run) where
   -- ---- a task

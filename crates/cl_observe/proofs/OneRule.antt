@@ -2,15 +2,8 @@
 use Rattle.std.proofs.Common.{◌≡◌, ◌≢◌, ℕ, inl, inr, Some, None, List, [], sym, ap, subst, ◌∙◌, arith}
 use Rattle.std.proofs.lemmas.Bool.{cases_lt}
 use Rattle.cl_model.specs.declared.model.SystemModel.{SystemModel}
-use Rattle.cl_runs.specs.TaskTiming.{System}
-use Rattle.cl_runs.specs.Run.{Run}
-use Rattle.cl_runs.specs.SystemOf.{system_of}
-use Rattle.cl_runs.specs.Legal.{IsLegal}
-use Rattle.cl_check.specs.declared.run_fault.Rule.{Rule}
-use Rattle.cl_check.specs.declared.run_fault.Rule.TheVariants.{Schedule}
-use Rattle.cl_check.specs.declared.run_fault.RunFault.{RunFault}
-use Rattle.cl_check.specs.declared.run_fault.RunFault.TheVariants.{Illegal, NoMemory}
-use Rattle.cl_check.specs.Legality.{first_fault, table_faults, IsFirstOnCore, BreaksSchedule, IsFirstBroken}
+use Rattle.cl_runs.specs.{TaskTiming.System, Run.Run, SystemOf.system_of, Legal.IsLegal}
+use Rattle.cl_check.specs.{declared.run_fault.{Rule.{Rule, TheVariants.Schedule}, RunFault.{RunFault, TheVariants.{Illegal, NoMemory}}}, Legality.{first_fault, table_faults, IsFirstOnCore, BreaksSchedule, IsFirstBroken}}
 use Rattle.cl_check.proofs.BrokenRules.{illegal}
 use Rattle.cl_observe.specs.Rules.{illegal_line, IsSaidIllegal, IsLegalityLine}
 

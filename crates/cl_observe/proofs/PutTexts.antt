@@ -3,30 +3,17 @@ use Rattle.std.proofs.Common.{◌≡◌, ◌⊎◌, ℕ, Option, List, ◌++◌,
 use Rattle.std.specs.Prelude.{codes}
 use Rattle.std.proofs.lemmas.List.{append_assoc}
 use Rattle.cl_text.specs.Line.{line}
-use Rattle.cl_model.specs.declared.model.SystemModel.{SystemModel}
-use Rattle.cl_model.specs.ByNumber.{task_at}
-use Rattle.cl_model.specs.Groups.{groups_at}
-use Rattle.cl_runs.specs.Run.{Run, jobs_of}
-use Rattle.cl_runs.specs.SystemOf.{system_of}
-use Rattle.cl_runs.specs.RunChains.{run_moments}
-use Rattle.cl_runs.specs.Delays.{IsDelayChain}
-use Rattle.cl_runs.specs.Measured.{IsMeasured}
-use Rattle.cl_bound.specs.declared.answer.TaskAnswer.{TaskAnswer}
-use Rattle.cl_bound.specs.Answers.{answer_at}
-use Rattle.cl_analyse.specs.declared.findings.ChainAnswer.{ChainAnswer}
-use Rattle.cl_analyse.specs.ChainAnswers.{chain_answer_at}
+use Rattle.cl_model.specs.{declared.model.SystemModel.SystemModel, ByNumber.task_at, Groups.groups_at}
+use Rattle.cl_runs.specs.{Run.{Run, jobs_of}, SystemOf.system_of, RunChains.run_moments, Delays.IsDelayChain, Measured.IsMeasured}
+use Rattle.cl_bound.specs.{declared.answer.TaskAnswer.TaskAnswer, Answers.answer_at}
+use Rattle.cl_analyse.specs.{declared.findings.ChainAnswer.ChainAnswer, ChainAnswers.chain_answer_at}
 use Rattle.cl_check.specs.InOrder.{IsRunInOrder}
 use Rattle.cl_chain.specs.declared.job_chain.Measured as own_measured
 use Rattle.cl_chain.specs.declared.job_chain.JobChain as own_chain
-use Rattle.cl_chain.specs.JobChains.{option_of, measured_of}
-use Rattle.cl_chain.specs.GreatestDelays.{IsGreatestDelayBy}
-use Rattle.cl_tight.specs.declared.findings.TightFindings.{TightFindings}
-use Rattle.cl_tight.specs.TightFindings.{tight_findings_of}
-use Rattle.cl_observe.specs.declared.values.Spread.{Spread}
-use Rattle.cl_observe.specs.declared.task_shown.ShownTask.{ShownTask}
-use Rattle.cl_observe.specs.Shown.{IsShownTask, IsShownTime}
-use Rattle.cl_observe.specs.Rules.{IsLegalityLine}
-use Rattle.cl_observe.specs.Observed.{runnable_line, shown_line, jitter_line, length_of, kind_length_lines, GoesOnWith, IsMadeOf, IsTimeLine, IsTaskText, IsChainText, IsShownInOrder, IsUnordered, IsObservationOf}
+use Rattle.cl_chain.specs.{JobChains.{option_of, measured_of}, GreatestDelays.IsGreatestDelayBy}
+use Rattle.cl_tight.specs.{declared.findings.TightFindings.TightFindings, TightFindings.tight_findings_of}
+use Rattle.cl_observe.specs.{declared.{values.Spread.Spread, task_shown.ShownTask.ShownTask}, Shown.{IsShownTask, IsShownTime}, Rules.IsLegalityLine, Observed.{runnable_line, shown_line, jitter_line, length_of, kind_length_lines, GoesOnWith, IsMadeOf, IsTimeLine, IsTaskText, IsChainText}}
+use Rattle.cl_observe.specs.Observed.{IsShownInOrder, IsUnordered, IsObservationOf}
 
 module _ (model : SystemModel) (run : Run) where
   -- ---- tasks

@@ -3,18 +3,11 @@ use Rattle.std.proofs.Common.{◌≡◌, ℕ, ◌-◌, ◌<◌, ◌≤◌, inl, 
 use Rattle.std.specs.Prelude.{nat_le, nat_lt}
 use Rattle.std.proofs.lemmas.Bool.{cases_lt, and_parts, and_from, leb-true, ltb-true, le-leb, lt-ltb}
 use Rattle.std.proofs.lemmas.List.{get_or_past}
-use Rattle.cl_runs.specs.declared.job.Job.{Job}
-use Rattle.cl_runs.specs.TaskTiming.{System, timing_at}
-use Rattle.cl_runs.specs.Run.{Run, jobs_of}
-use Rattle.cl_runs.specs.Moments.{Finishes}
+use Rattle.cl_runs.specs.{declared.job.Job.Job, TaskTiming.{System, timing_at}, Run.{Run, jobs_of}, Moments.Finishes}
 use Rattle.cl_runs.proofs.StartsFinishes.{finishes_once}
-use Rattle.cl_check.specs.declared.job_ends.End.TheVariants.{Finish}
-use Rattle.cl_check.specs.JobMoments.{IsMomentOf, AreEndsOfJobs}
-use Rattle.cl_observe.specs.declared.values.Spread.{Spread}
-use Rattle.cl_observe.specs.declared.task_shown.ShownTask.{ShownTask}
-use Rattle.cl_observe.specs.Values.{CountsBelow, IsGreatestResponseOf, IsSpreadOf}
-use Rattle.cl_observe.specs.Shown.{job_due, MissesItsDeadline, HasResponseIn, HasJitterIn, HasTimeIn, IsShownTask, IsShownTime}
-use Rattle.cl_observe.specs.Inner.JobLists.{finish_at, is_unfinished, IsJobUnfinished, HasListedResponse, HasListedJitter, HasListedTime}
+use Rattle.cl_check.specs.{declared.job_ends.End.TheVariants.Finish, JobMoments.{IsMomentOf, AreEndsOfJobs}}
+use Rattle.cl_observe.specs.{declared.{values.Spread.Spread, task_shown.ShownTask.ShownTask}, Values.{CountsBelow, IsGreatestResponseOf, IsSpreadOf}, Shown.{job_due, MissesItsDeadline, HasResponseIn, HasJitterIn, HasTimeIn, IsShownTask, IsShownTime}, Inner.JobLists.finish_at}
+use Rattle.cl_observe.specs.Inner.JobLists.{is_unfinished, IsJobUnfinished, HasListedResponse, HasListedJitter, HasListedTime}
 use Rattle.cl_observe.proofs.OneValue.{counts_as, greatest_as, spread_as}
 
 module _ (system : System) (run : Run) (task place : ℕ) where

@@ -2,29 +2,17 @@
 use Rattle.std.proofs.Common.{◌⊎◌, ℕ, zero, suc, ◌<◌, inl, inr, List, [], ◌++◌, length, refl, arith}
 use Rattle.std.specs.Prelude.{codes}
 use Rattle.cl_text.specs.Line.{line}
-use Rattle.cl_model.specs.declared.model.SystemModel.{SystemModel}
-use Rattle.cl_model.specs.ByNumber.{task_at}
-use Rattle.cl_model.specs.Groups.{groups_at}
-use Rattle.cl_model.specs.Validity.{IsValid}
+use Rattle.cl_model.specs.{declared.model.SystemModel.SystemModel, ByNumber.task_at, Groups.groups_at, Validity.IsValid}
 use Rattle.cl_model.proofs.GroupFacts.{groups_at_some}
-use Rattle.cl_runs.specs.Run.{Run, jobs_of, IsInForm}
-use Rattle.cl_runs.specs.SystemOf.{system_of}
-use Rattle.cl_runs.specs.Legal.{IsLegal}
+use Rattle.cl_runs.specs.{Run.{Run, jobs_of, IsInForm}, SystemOf.system_of, Legal.IsLegal}
 use Rattle.cl_runs.proofs.ModelSystem.{system_sound}
-use Rattle.cl_bound.specs.declared.answer.TaskAnswer.{TaskAnswer}
-use Rattle.cl_bound.specs.Answers.{answer_at}
-use Rattle.cl_analyse.specs.declared.findings.ChainAnswer.{ChainAnswer}
-use Rattle.cl_analyse.specs.ChainAnswers.{chain_answer_at}
+use Rattle.cl_bound.specs.{declared.answer.TaskAnswer.TaskAnswer, Answers.answer_at}
+use Rattle.cl_analyse.specs.{declared.findings.ChainAnswer.ChainAnswer, ChainAnswers.chain_answer_at}
 use Rattle.cl_check.specs.InOrder.{IsRunInOrder}
-use Rattle.cl_chain.proofs.DecidedMoments.{Decided}
-use Rattle.cl_chain.proofs.SomeMeasured.{run_measured}
+use Rattle.cl_chain.proofs.{DecidedMoments.Decided, SomeMeasured.run_measured, SomeDelay.some_delay}
 use Rattle.cl_tight.specs.TightFindings.{tight_findings_of}
-use Rattle.cl_observe.specs.Rules.{illegal_line, IsLegalityLine}
-use Rattle.cl_observe.specs.Observed.{runnable_line, shown_line, jitter_line, length_of, kind_length_lines, IsMadeOf, IsTimeLine, IsTaskText, IsChainText, IsShownInOrder, IsUnordered, IsObservationOf}
-use Rattle.cl_observe.proofs.LegalOrBroken.{IsBroken, legal_or_broken}
-use Rattle.cl_observe.proofs.DecidedOrder.{order_or_not}
-use Rattle.cl_observe.proofs.DecidedJobs.{some_shown_task, some_shown_time}
-use Rattle.cl_chain.proofs.SomeDelay.{some_delay}
+use Rattle.cl_observe.specs.{Rules.{illegal_line, IsLegalityLine}, Observed.{runnable_line, shown_line, jitter_line, length_of, kind_length_lines, IsMadeOf, IsTimeLine, IsTaskText, IsChainText, IsShownInOrder, IsUnordered, IsObservationOf}}
+use Rattle.cl_observe.proofs.{LegalOrBroken.{IsBroken, legal_or_broken}, DecidedOrder.order_or_not, DecidedJobs.{some_shown_task, some_shown_time}}
 
 -- where there is a piece for each number there is a text
 some_made : (Is : ℕ → List ℕ → Type 0) (n : ℕ) → ((k : ℕ) → k < n → (text : List ℕ) × Is k text) → (text : List ℕ) × IsMadeOf Is n text

@@ -3,13 +3,8 @@
 use Rattle.std.proofs.Common.{◌≡◌, ℕ, zero, suc, ◌+◌, ◌<◌, ℤ, inl, inr, Option, Some, None, refl, subst}
 use Rattle.std.proofs.Math.Numerals.{add-one}
 use Rattle.cl_chain.proofs.DecidedMoments.{Decided}
-use Rattle.cl_observe.specs.declared.values.GreatestResponse.{GreatestResponse}
-use Rattle.cl_observe.specs.declared.values.Spread.{Spread}
-use Rattle.cl_observe.specs.Values.{CountsBelow, IsGreatestResponseOf, IsSpreadOf}
-use Rattle.cl_observe.specs.Inner.Choices.{or_response, or_number}
-use Rattle.cl_observe.specs.Inner.JobLists.{HasBelow}
-use Rattle.cl_observe.proofs.OneValue.{greatest_as, spread_as}
-use Rattle.cl_observe.proofs.ListedJobs.{greatest_kept, greatest_more, spread_kept, spread_more, none_below}
+use Rattle.cl_observe.specs.{declared.values.{GreatestResponse.GreatestResponse, Spread.Spread}, Values.{CountsBelow, IsGreatestResponseOf, IsSpreadOf}, Inner.{Choices.{or_response, or_number}, JobLists.HasBelow}}
+use Rattle.cl_observe.proofs.{OneValue.{greatest_as, spread_as}, ListedJobs.{greatest_kept, greatest_more, spread_kept, spread_more, none_below}}
 
 -- ---- counts
 

@@ -3,9 +3,7 @@ use Rattle.std.proofs.Common.{◌≡◌, ℕ, ℤ, Bool, true, false, Option, So
 use Rattle.std.specs.Prelude.{pos, int_lt, ◌≤ℤ◌, if◌then◌else◌, codes}
 use Rattle.std.proofs.lemmas.Bool.{or_from}
 use Rattle.std.proofs.lemmas.Int.{ints}
-use Rattle.cl_observe.specs.declared.values.Spread.{Spread}
-use Rattle.cl_observe.specs.Observed.{above_words, outside_words}
-use Rattle.cl_observe.specs.Within.{IsNotAbove, AreInside}
+use Rattle.cl_observe.specs.{declared.values.Spread.Spread, Observed.{above_words, outside_words}, Within.{IsNotAbove, AreInside}}
 
 not_less : (x y : ℤ) → y ≤ℤ x → int_lt x y ≡ false
 not_less x y most = by (int_lt x y) refl

@@ -1,16 +1,9 @@
 -- Whether a run is legal, and else the first rule that it breaks, in words.
 use Rattle.std.specs.Prelude.{◌≡◌, ◌⊎◌, ℕ, List, [], ◌++◌, slice_index_or, codes, decimal}
 use Rattle.cl_text.specs.Line.{line}
-use Rattle.cl_model.specs.declared.model.SystemModel.{SystemModel}
-use Rattle.cl_model.specs.ByNumber.{task_at}
-use Rattle.cl_model.specs.Named.{core_names}
-use Rattle.cl_runs.specs.Run.{Run}
-use Rattle.cl_runs.specs.SystemOf.{system_of}
-use Rattle.cl_runs.specs.Legal.{IsLegal}
-use Rattle.cl_check.specs.declared.run_fault.Rule.{Rule}
-use Rattle.cl_check.specs.declared.run_fault.Rule.TheVariants.{Arrival, Release, Time, Missing, Schedule}
-use Rattle.cl_check.specs.declared.run_fault.RunFault.TheVariants.{Illegal}
-use Rattle.cl_check.specs.Legality.{IsFirstBroken}
+use Rattle.cl_model.specs.{declared.model.SystemModel.SystemModel, ByNumber.task_at, Named.core_names}
+use Rattle.cl_runs.specs.{Run.Run, SystemOf.system_of, Legal.IsLegal}
+use Rattle.cl_check.specs.{declared.run_fault.{Rule.{Rule, TheVariants.{Arrival, Release, Time, Missing, Schedule}}, RunFault.TheVariants.Illegal}, Legality.IsFirstBroken}
 
 -- a rule, and what breaks it: a core its schedule, and a task every other rule
 abbrev pub rule_words : Rule → List ℕ

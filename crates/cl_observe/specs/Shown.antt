@@ -1,13 +1,8 @@
 -- What a run in form shows of a task and of a chain, be the run legal or not. Times are in ticks. A job of a run that isn't
 -- legal may be released, and finish, before it arrives.
 use Rattle.std.specs.Prelude.{◌≡◌, ℕ, ℤ, pos, ◌-ℤ◌, ◌+◌, ◌<◌, ◌≤◌, length, slice_index, Option}
-use Rattle.cl_runs.specs.TaskTiming.{System, timing_at}
-use Rattle.cl_runs.specs.Table.{job_at}
-use Rattle.cl_runs.specs.Run.{Run, jobs_of}
-use Rattle.cl_runs.specs.Moments.{Finishes, JobFinishes}
-use Rattle.cl_observe.specs.declared.values.Spread.{Spread}
-use Rattle.cl_observe.specs.declared.task_shown.ShownTask.{ShownTask}
-use Rattle.cl_observe.specs.Values.{CountsBelow, IsGreatestResponseOf, IsSpreadOf}
+use Rattle.cl_runs.specs.{TaskTiming.{System, timing_at}, Table.job_at, Run.{Run, jobs_of}, Moments.{Finishes, JobFinishes}}
+use Rattle.cl_observe.specs.{declared.{values.Spread.Spread, task_shown.ShownTask.ShownTask}, Values.{CountsBelow, IsGreatestResponseOf, IsSpreadOf}}
 
 -- ---- jobs
 

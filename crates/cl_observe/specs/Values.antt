@@ -1,8 +1,7 @@
 -- What is said of numbers that some jobs have and others may not: how many jobs, the greatest number, and between which
 -- numbers all lie.
 use Rattle.std.specs.Prelude.{◌≡◌, ℕ, zero, suc, ◌+◌, ℤ, ◌≤ℤ◌, ◌≤◌, ◌⊎◌, Option, Some, None}
-use Rattle.cl_observe.specs.declared.values.GreatestResponse.{GreatestResponse}
-use Rattle.cl_observe.specs.declared.values.Spread.{Spread}
+use Rattle.cl_observe.specs.declared.values.{GreatestResponse.GreatestResponse, Spread.Spread}
 
 -- so many of the numbers below one are of a kind
 abbrev pub CountsBelow : (Is : ℕ → Type 0) → (n count : ℕ) → Type 0

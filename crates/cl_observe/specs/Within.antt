@@ -1,28 +1,12 @@
 -- What a legal run shows lies within what is found of its model. Times are in ticks.
 use Rattle.std.specs.Prelude.{◌≡◌, ℕ, ℤ, pos, ◌≤ℤ◌, ◌<◌, length, Option, Some}
-use Rattle.cl_model.specs.declared.model.SystemModel.{SystemModel}
-use Rattle.cl_model.specs.declared.chain.LengthKind.TheVariants.{Reaction, Age, Reduced}
-use Rattle.cl_model.specs.declared.chain.RequirementKind.{RequirementKind}
-use Rattle.cl_model.specs.declared.chain.RequirementKind.TheVariants.{Length, Delay}
-use Rattle.cl_model.specs.ByNumber.{task_at, runnable_at, jitter_of}
-use Rattle.cl_model.specs.Groups.{groups_at}
-use Rattle.cl_runs.specs.Run.{Run}
-use Rattle.cl_runs.specs.SystemOf.{system_of}
-use Rattle.cl_runs.specs.Chains.{JobChain}
-use Rattle.cl_runs.specs.RunChains.{run_moments}
-use Rattle.cl_runs.specs.Delays.{IsDelayChain}
-use Rattle.cl_runs.specs.Measured.{Measured, IsMeasured}
-use Rattle.cl_bound.specs.declared.answer.TaskAnswer.{TaskAnswer}
-use Rattle.cl_bound.specs.Answers.{answer_at}
-use Rattle.cl_analyse.specs.declared.findings.ChainAnswer.{ChainAnswer}
-use Rattle.cl_analyse.specs.ChainAnswers.{chain_answer_at}
-use Rattle.cl_analyse.specs.Verdicts.{required_bound}
+use Rattle.cl_model.specs.{declared.{model.SystemModel.SystemModel, chain.{LengthKind.TheVariants.{Reaction, Age, Reduced}, RequirementKind.{RequirementKind, TheVariants.{Length, Delay}}}}, ByNumber.{task_at, runnable_at, jitter_of}, Groups.groups_at}
+use Rattle.cl_runs.specs.{Run.Run, SystemOf.system_of, Chains.JobChain, RunChains.run_moments, Delays.IsDelayChain, Measured.{Measured, IsMeasured}}
+use Rattle.cl_bound.specs.{declared.answer.TaskAnswer.TaskAnswer, Answers.answer_at}
+use Rattle.cl_analyse.specs.{declared.findings.ChainAnswer.ChainAnswer, ChainAnswers.chain_answer_at, Verdicts.required_bound}
 use Rattle.cl_chain.specs.GreatestDelays.{IsGreatestDelayBy}
 use Rattle.cl_tight.specs.TightFindings.{tight_findings_of}
-use Rattle.cl_observe.specs.declared.values.Spread.{Spread}
-use Rattle.cl_observe.specs.declared.task_shown.ShownTask.{ShownTask}
-use Rattle.cl_observe.specs.Shown.{IsShownTask, IsShownTime}
-use Rattle.cl_observe.specs.Observed.{response_number, response_bound, length_of}
+use Rattle.cl_observe.specs.{declared.{values.Spread.Spread, task_shown.ShownTask.ShownTask}, Shown.{IsShownTask, IsShownTime}, Observed.{response_number, response_bound, length_of}}
 
 -- a number that is shown isn't above its bound, where it has one
 abbrev pub IsNotAbove : Option ℤ → (bound : Option ℕ) → Type 0

@@ -1,10 +1,8 @@
 //! The lines of what a run shows of the chains of a model.
 ghost use Rattle.std.specs.Prelude.{◌≡◌, ◌<◌, ◌++◌, length, OnOk};
-ghost use Rattle.cl_runs.specs.SystemOf.{system_of};
-ghost use Rattle.cl_runs.specs.Run.{IsInForm};
+ghost use Rattle.cl_runs.specs.{SystemOf.system_of, Run.IsInForm};
 ghost use Rattle.cl_analyse.specs.ChainAnswers.{chain_answer_at};
-ghost use Rattle.cl_check.specs.Apart.{StandApart};
-ghost use Rattle.cl_check.specs.InOrder.{IsRunInOrder};
+ghost use Rattle.cl_check.specs.{Apart.StandApart, InOrder.IsRunInOrder};
 ghost use Rattle.cl_chain.specs.JobChains.{option_of, measured_of};
 ghost use Rattle.cl_observe.specs.Observed.{length_of, length_words, kind_length_line, kind_length_lines, GoesOnWith, IsMadeOf, IsChainText};
 

@@ -1,14 +1,9 @@
 //! Each run in form shows one thing, and a legal run nothing that is above a bound or outside a
 //! range.
 ghost use Rattle.std.specs.Prelude.{◌≡◌, ℕ, ℤ, Option, Some, List, []};
-ghost use Rattle.cl_model.specs.declared.model.SystemModel.{SystemModel};
-ghost use Rattle.cl_model.specs.Validity.{IsValid};
-ghost use Rattle.cl_runs.specs.Run.{Run, IsInForm};
-ghost use Rattle.cl_runs.specs.SystemOf.{system_of};
-ghost use Rattle.cl_runs.specs.Legal.{IsLegal};
-ghost use Rattle.cl_observe.specs.declared.values.Spread.{Spread};
-ghost use Rattle.cl_observe.specs.Observed.{above_words, outside_words, IsObservationOf};
-ghost use Rattle.cl_observe.specs.Within.{IsNotAbove, AreInside, IsWithinFindings};
+ghost use Rattle.cl_model.specs.{declared.model.SystemModel.SystemModel, Validity.IsValid};
+ghost use Rattle.cl_runs.specs.{Run.{Run, IsInForm}, SystemOf.system_of, Legal.IsLegal};
+ghost use Rattle.cl_observe.specs.{declared.values.Spread.Spread, Observed.{above_words, outside_words, IsObservationOf}, Within.{IsNotAbove, AreInside, IsWithinFindings}};
 
 /// Two texts that say what one run of a model shows are equal.
 pub fn observations_are_unique()

@@ -1,7 +1,6 @@
 //! What a run shows, as text. Times are in ticks.
 ghost use Rattle.std.specs.Prelude.{◌≡◌, ◌⊎◌, OnOk, IfOk};
-ghost use Rattle.cl_runs.specs.SystemOf.{system_of};
-ghost use Rattle.cl_runs.specs.Run.{IsInForm};
+ghost use Rattle.cl_runs.specs.{SystemOf.system_of, Run.IsInForm};
 ghost use Rattle.cl_check.specs.InOrder.{IsRunInOrder};
 ghost use Rattle.cl_tight.specs.TightFindings.{tight_findings_of};
 ghost use Rattle.cl_observe.specs.Observed.{GoesOnWith, IsShownInOrder, IsUnordered, IsObservationOf};

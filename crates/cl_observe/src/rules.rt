@@ -1,11 +1,8 @@
 //! Whether a run is legal, and else the first rule that it breaks, in words.
 ghost use Rattle.std.specs.Prelude.{◌≡◌, ◌++◌, [], slice_index_or, OnOk};
-ghost use Rattle.cl_model.specs.ByNumber.{task_at};
-ghost use Rattle.cl_model.specs.Named.{core_names};
-ghost use Rattle.cl_runs.specs.SystemOf.{system_of};
-ghost use Rattle.cl_runs.specs.Run.{IsInForm};
-ghost use Rattle.cl_observe.specs.Observed.{GoesOnWith};
-ghost use Rattle.cl_observe.specs.Rules.{rule_words, breaker, illegal_line, IsLegalityLine};
+ghost use Rattle.cl_model.specs.{ByNumber.task_at, Named.core_names};
+ghost use Rattle.cl_runs.specs.{SystemOf.system_of, Run.IsInForm};
+ghost use Rattle.cl_observe.specs.{Observed.GoesOnWith, Rules.{rule_words, breaker, illegal_line, IsLegalityLine}};
 
 use cl_check::{Rule, RunFault, check_run};
 use cl_model::ValidModel;

@@ -1,13 +1,10 @@
 //! The lines of what a run shows of the tasks of a model.
 ghost use Rattle.std.specs.Prelude.{◌≡◌, ◌<◌, ◌++◌, length, OnOk};
 ghost use Rattle.cl_model.specs.ByNumber.{task_at};
-ghost use Rattle.cl_runs.specs.SystemOf.{system_of};
-ghost use Rattle.cl_runs.specs.Run.{IsInForm};
-ghost use Rattle.cl_check.specs.Apart.{StandApart};
-ghost use Rattle.cl_check.specs.InOrder.{IsRunInOrder};
+ghost use Rattle.cl_runs.specs.{SystemOf.system_of, Run.IsInForm};
+ghost use Rattle.cl_check.specs.{Apart.StandApart, InOrder.IsRunInOrder};
 ghost use Rattle.cl_bound.specs.Answers.{answer_at};
-ghost use Rattle.cl_observe.specs.Inner.JobLists.{AreFinishTimes};
-ghost use Rattle.cl_observe.specs.Observed.{response_number, response_words, response_bound, shown_line, jitter_line, runnable_line, GoesOnWith, IsMadeOf, IsTimeLine, IsTaskText};
+ghost use Rattle.cl_observe.specs.{Inner.JobLists.AreFinishTimes, Observed.{response_number, response_words, response_bound, shown_line, jitter_line, runnable_line, GoesOnWith, IsMadeOf, IsTimeLine, IsTaskText}};
 
 use crate::task_shown::{ShownTask, finishes, shown_task, shown_time};
 use crate::values::{GreatestResponse, Spread};

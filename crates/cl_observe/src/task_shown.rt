@@ -2,15 +2,9 @@
 //! are in ticks.
 ghost use Rattle.std.specs.Prelude.{◌≡◌, pos, ◌-ℤ◌, ◌-◌, ◌+◌, ◌<◌, length, All, IfOk};
 ghost use Rattle.cl_model.specs.ByNumber.{task_at};
-ghost use Rattle.cl_runs.specs.declared.job.Job.{Job};
-ghost use Rattle.cl_runs.specs.SystemOf.{system_of};
-ghost use Rattle.cl_runs.specs.Run.{IsInForm};
-ghost use Rattle.cl_check.specs.Apart.{StandApart};
-ghost use Rattle.cl_check.specs.InOrder.{IsRunInOrder};
-ghost use Rattle.cl_observe.specs.Values.{CountsBelow, IsGreatestResponseOf, IsSpreadOf};
-ghost use Rattle.cl_observe.specs.Shown.{IsShownTask, IsShownTime};
-ghost use Rattle.cl_observe.specs.Inner.Choices.{or_number, or_finish, or_time};
-ghost use Rattle.cl_observe.specs.Inner.JobLists.{AreFinishTimes, is_unfinished, IsJobUnfinished, HasListedResponse, HasListedJitter, HasListedTime};
+ghost use Rattle.cl_runs.specs.{declared.job.Job.Job, SystemOf.system_of, Run.IsInForm};
+ghost use Rattle.cl_check.specs.{Apart.StandApart, InOrder.IsRunInOrder};
+ghost use Rattle.cl_observe.specs.{Values.{CountsBelow, IsGreatestResponseOf, IsSpreadOf}, Shown.{IsShownTask, IsShownTime}, Inner.{Choices.{or_number, or_finish, or_time}, JobLists.{AreFinishTimes, is_unfinished, IsJobUnfinished, HasListedResponse, HasListedJitter, HasListedTime}}};
 
 use crate::values::{GreatestResponse, Spread, or_number, or_response, since};
 use cl_check::{End, ends_apart};

@@ -6,8 +6,7 @@ use Rattle.std.specs.Int.{◌∣◌}
 use Rattle.std.proofs.Math.IntN.{suc_ℤ, pred_ℤ, suc_ℤ-*ℤ, pred_ℤ-*ℤ}
 use Rattle.std.proofs.Math.Nat.{div-mul_cancel, mod-lt}
 use Rattle.std.proofs.lemmas.Int.{ints}
-use Rattle.cl_stim.specs.declared.phase.Phase.{Phase}
-use Rattle.cl_stim.specs.Phase.{IsArrivalOf}
+use Rattle.cl_stim.specs.{declared.phase.Phase.Phase, Phase.IsArrivalOf}
 
 module _ (phase : Phase) where
   -- a period later, and a period earlier

@@ -2,10 +2,8 @@
 use Rattle.std.proofs.Common.{◌≡◌, ℕ, zero, suc, ◌+◌, ◌-◌, ◌<◌, ◌≤◌, List, [], ◌∷◌, length, refl, ap, subst, arith}
 use Rattle.std.specs.Prelude.{slice_index, sum_by}
 use Rattle.std.proofs.lemmas.List.Sums.{get_or-le-sum_by}
-use Rattle.cl_model.specs.declared.group.Group.{Group}
-use Rattle.cl_model.specs.Groups.{no_group, group_at}
-use Rattle.cl_runs.specs.Chains.{Moments, HasWritten, IsLatestWriter, JobChain, first_group, last_group, AreBackwardLinks, IsAgeChain, IsReducedChain}
-use Rattle.cl_runs.specs.MomentOrder.{AreInOrder}
+use Rattle.cl_model.specs.{declared.group.Group.Group, Groups.{no_group, group_at}}
+use Rattle.cl_runs.specs.{Chains.{Moments, HasWritten, IsLatestWriter, JobChain, first_group, last_group, AreBackwardLinks, IsAgeChain, IsReducedChain}, MomentOrder.AreInOrder}
 use Rattle.cl_phase.proofs.JobsInTime.{HasJobBy, HasJobsBy, KeepsUp, AllKeepUp, later_by, has_writer}
 
 -- one more group before those of backward links

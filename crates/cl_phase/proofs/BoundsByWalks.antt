@@ -3,12 +3,7 @@ use Rattle.std.proofs.Common.{◌≡◌, ℕ, List, refl, ap, ◌∙◌}
 use Rattle.cl_model.specs.declared.group.Group.{Group}
 use Rattle.cl_runs.specs.TaskTiming.{System}
 use Rattle.cl_bound.specs.declared.group_timing.GroupTiming.{GroupTiming}
-use Rattle.cl_phase.specs.declared.stop.Stop.{Stop}
-use Rattle.cl_phase.specs.declared.walk.Ends.{Ends}
-use Rattle.cl_phase.specs.declared.walk.Longest.{Longest}
-use Rattle.cl_phase.specs.Walks.{pace_at}
-use Rattle.cl_phase.specs.TightBounds.{hyperperiod_in, starts, bounds_from, slowest, stops_of, span_of, last_write, tight_bounds}
-use Rattle.cl_phase.specs.Inner.Longest.{span_between, longest_walk, bounds_by}
+use Rattle.cl_phase.specs.{declared.{stop.Stop.Stop, walk.{Ends.Ends, Longest.Longest}}, Walks.pace_at, TightBounds.{hyperperiod_in, starts, bounds_from, slowest, stops_of, span_of, last_write, tight_bounds}, Inner.Longest.{span_between, longest_walk, bounds_by}}
 
 bounds_from_place : (stops : List Stop) (ends : Ends) (place : ℕ)
     → bounds_by (longest_walk stops ends place (starts (pace_at stops place) (hyperperiod_in stops))) ≡ bounds_from stops (span_between ends) ends.write place

@@ -2,25 +2,13 @@
 -- legal run.
 use Rattle.std.proofs.Common.{ℕ, ◌+◌, ◌<◌, ◌≤◌, List, length, arith}
 use Rattle.std.specs.Prelude.{All}
-use Rattle.cl_model.specs.declared.chain.LengthKind.{LengthKind}
-use Rattle.cl_model.specs.declared.chain.LengthKind.TheVariants.{Reaction, Age, Reduced}
-use Rattle.cl_model.specs.declared.group.Group.{Group}
-use Rattle.cl_model.specs.Groups.{no_group, group_at}
-use Rattle.cl_runs.specs.TaskTiming.{System, IsSound}
-use Rattle.cl_runs.specs.Run.{Run}
-use Rattle.cl_runs.specs.Legal.{IsLegal}
-use Rattle.cl_runs.specs.RunChains.{run_moments}
-use Rattle.cl_runs.proofs.ChainsOrdered.{forward_ordered, age_ordered, reduced_ordered}
-use Rattle.cl_runs.proofs.Extension.{some_legal}
-use Rattle.cl_runs.proofs.OrderedMoments.{run_in_order}
-use Rattle.cl_bound.specs.Timings.{AlwaysKeeps}
-use Rattle.cl_bound.specs.declared.group_timing.GroupTiming.{GroupTiming}
+use Rattle.cl_model.specs.{declared.{chain.LengthKind.{LengthKind, TheVariants.{Reaction, Age, Reduced}}, group.Group.Group}, Groups.{no_group, group_at}}
+use Rattle.cl_runs.specs.{TaskTiming.{System, IsSound}, Run.Run, Legal.IsLegal, RunChains.run_moments}
+use Rattle.cl_runs.proofs.{ChainsOrdered.{forward_ordered, age_ordered, reduced_ordered}, Extension.some_legal, OrderedMoments.run_in_order}
+use Rattle.cl_bound.specs.{Timings.AlwaysKeeps, declared.group_timing.GroupTiming.GroupTiming}
 use Rattle.cl_bound.proofs.ChainBounds.{AreAlwaysKept}
 use Rattle.cl_phase.specs.CompleteChains.{HasChainOfKind, HasCompleteChains}
-use Rattle.cl_phase.proofs.JobsInTime.{AllKeepUp}
-use Rattle.cl_phase.proofs.ForwardExists.{forward_ticks, has_forward_chain}
-use Rattle.cl_phase.proofs.BackwardExists.{backward_ticks, has_age_chain, has_reduced_chain}
-use Rattle.cl_phase.proofs.KeptInTime.{latest_write, keeps_up, kept_read_first}
+use Rattle.cl_phase.proofs.{JobsInTime.AllKeepUp, ForwardExists.{forward_ticks, has_forward_chain}, BackwardExists.{backward_ticks, has_age_chain, has_reduced_chain}, KeptInTime.{latest_write, keeps_up, kept_read_first}}
 
 -- how long a run has to last for complete chains of each kind
 pub enough_ticks : System → (timing : Group → GroupTiming) → List Group → ℕ

@@ -6,28 +6,13 @@ use Rattle.std.proofs.lemmas.List.{drop_all, map-append, drop-map}
 use Rattle.std.proofs.lemmas.List.Elements.{All-nil}
 use Rattle.std.proofs.Math.ListN.{get_or-append}
 use Rattle.std.proofs.Math.Seq.{get_or-append_seam}
-use Rattle.cl_model.specs.declared.limits.TheConstants.{MOST_TICKS, MOST_STEPS}
-use Rattle.cl_model.specs.declared.group.Group.{Group}
-use Rattle.cl_model.specs.declared.stimulus.StimulusKind.{StimulusKind}
-use Rattle.cl_model.specs.Groups.{no_group, group_at}
-use Rattle.cl_model.specs.Timing.{greatest_distance}
+use Rattle.cl_model.specs.{declared.{limits.TheConstants.{MOST_TICKS, MOST_STEPS}, group.Group.Group, stimulus.StimulusKind.StimulusKind}, Groups.{no_group, group_at}, Timing.greatest_distance}
 use Rattle.cl_runs.specs.TaskTiming.{System, timing_at}
-use Rattle.cl_stim.specs.declared.phase.Phase.{Phase}
-use Rattle.cl_stim.specs.Integers.{IsIntegerWithin}
-use Rattle.cl_stim.specs.Phase.{phase_of}
-use Rattle.cl_bound.specs.declared.group_timing.GroupTiming.{GroupTiming}
-use Rattle.cl_bound.specs.Bounds.{last_of}
-use Rattle.cl_phase.specs.declared.pace.Pace.{Pace}
-use Rattle.cl_phase.specs.declared.stop.Stop.{Stop}
-use Rattle.cl_phase.specs.declared.keeping.Keeping.{Keeping}
-use Rattle.cl_phase.specs.Kept.{phase_beside, kept_with, pace_with}
-use Rattle.cl_phase.specs.Walks.{no_stop}
-use Rattle.cl_phase.specs.TightBounds.{lag_to_next, stops_beside, stops_of, span_of, last_write}
-use Rattle.cl_phase.specs.Inner.Ranges.{IsPaceInRange, AreStopsInRange}
-use Rattle.cl_phase.specs.Inner.Keeping.{AreKept, AreKeptIn, IsBeside}
-use Rattle.cl_phase.specs.Inner.Course.{first_lag}
-use Rattle.cl_phase.proofs.SlowestGroups.{pace_of}
-use Rattle.cl_phase.proofs.KeptAfter.{phase_in, kept_after, after_more, phase_of_pace, kept_in}
+use Rattle.cl_stim.specs.{declared.phase.Phase.Phase, Integers.IsIntegerWithin, Phase.phase_of}
+use Rattle.cl_bound.specs.{declared.group_timing.GroupTiming.GroupTiming, Bounds.last_of}
+use Rattle.cl_phase.specs.{declared.{pace.Pace.Pace, stop.Stop.Stop, keeping.Keeping.Keeping}, Kept.{phase_beside, kept_with, pace_with}, Walks.no_stop, TightBounds.{lag_to_next, stops_beside, stops_of, span_of, last_write}, Inner.{Ranges.{IsPaceInRange, AreStopsInRange}, Keeping.AreKept}}
+use Rattle.cl_phase.specs.Inner.{Keeping.{AreKeptIn, IsBeside}, Course.first_lag}
+use Rattle.cl_phase.proofs.{SlowestGroups.pace_of, KeptAfter.{phase_in, kept_after, after_more, phase_of_pace, kept_in}}
 use Rattle.cl_stim.proofs.Hyperperiods.{HasPeriod, hyperperiod_positive}
 
 -- a group on its walks whose numbers are those of a valid model

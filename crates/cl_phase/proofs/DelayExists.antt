@@ -1,25 +1,14 @@
 -- Groups whose timings always hold have a delay of 1 tick or more in some legal run, so their tight bound on it is 1 tick or more.
 use Rattle.std.proofs.Common.{◌≡◌, ℕ, zero, suc, ◌-◌, ◌<◌, ◌≤◌, List, length, refl, subst, arith}
 use Rattle.std.specs.Prelude.{slice_index, All}
-use Rattle.cl_model.specs.declared.chain.LengthKind.TheVariants.{Reaction}
-use Rattle.cl_model.specs.declared.group.Group.{Group}
-use Rattle.cl_model.specs.Groups.{no_group, group_at}
-use Rattle.cl_runs.specs.TaskTiming.{System, IsSound}
-use Rattle.cl_runs.specs.Table.{job_at}
-use Rattle.cl_runs.specs.Run.{Run, jobs_of}
-use Rattle.cl_runs.specs.Legal.{IsLegal}
-use Rattle.cl_runs.specs.Chains.{Moments, JobChain, chain_length, first_group, last_group, first_job, IsForwardChain}
-use Rattle.cl_runs.specs.MomentOrder.{AreInOrder, HaveReadBeforeWriting}
-use Rattle.cl_runs.specs.RunChains.{run_moments}
-use Rattle.cl_runs.proofs.OrderedMoments.{run_in_order}
+use Rattle.cl_model.specs.{declared.{chain.LengthKind.TheVariants.Reaction, group.Group.Group}, Groups.{no_group, group_at}}
+use Rattle.cl_runs.specs.{TaskTiming.{System, IsSound}, Table.job_at, Run.{Run, jobs_of}, Legal.IsLegal, Chains.{Moments, JobChain, chain_length, first_group, last_group, first_job, IsForwardChain}, MomentOrder.{AreInOrder, HaveReadBeforeWriting}, RunChains.run_moments}
 use Rattle.cl_runs.specs.Delays.{IsDelayChain}
-use Rattle.cl_bound.specs.Timings.{AlwaysKeeps}
-use Rattle.cl_bound.specs.declared.group_timing.GroupTiming.{GroupTiming}
+use Rattle.cl_runs.proofs.OrderedMoments.{run_in_order}
+use Rattle.cl_bound.specs.{Timings.AlwaysKeeps, declared.group_timing.GroupTiming.GroupTiming}
 use Rattle.cl_bound.proofs.ChainBounds.{AreAlwaysKept}
 use Rattle.cl_phase.specs.TightBounds.{tight_bounds}
-use Rattle.cl_phase.proofs.ChainsComplete.{has_complete_chains}
-use Rattle.cl_phase.proofs.KeptInTime.{kept_read_first}
-use Rattle.cl_phase.proofs.DelaySafety.{delays_within}
+use Rattle.cl_phase.proofs.{ChainsComplete.has_complete_chains, KeptInTime.kept_read_first, DelaySafety.delays_within}
 
 module _ (system : System) (sound : IsSound system) (timing : Group → GroupTiming) (groups : List Group) (keep : AreAlwaysKept system timing groups)
     (run : Run) (legal : IsLegal system run) (chain : JobChain) (complete : IsForwardChain (run_moments system run) groups chain) where

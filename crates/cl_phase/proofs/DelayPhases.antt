@@ -3,13 +3,8 @@
 use Rattle.std.proofs.Common.{ℕ, ℤ, suc, ◌+◌, ◌<◌, List, length, arith}
 use Rattle.std.specs.Prelude.{◌≤ℤ◌}
 use Rattle.std.proofs.lemmas.Int.{ints}
-use Rattle.cl_phase.specs.declared.stop.Stop.{Stop}
-use Rattle.cl_phase.specs.Pace.{next}
-use Rattle.cl_phase.specs.Walks.{pace_at}
-use Rattle.cl_phase.specs.TightBounds.{delay_from}
-use Rattle.cl_phase.proofs.Stepped.{IsStepped}
-use Rattle.cl_phase.proofs.PhaseAnswers.{LeadsTo, ahead, answer, last_is, back_no_later, last_no_earlier, first_no_later}
-use Rattle.cl_phase.proofs.DelaySteps.{next_rises}
+use Rattle.cl_phase.specs.{declared.stop.Stop.Stop, Pace.next, Walks.pace_at, TightBounds.delay_from}
+use Rattle.cl_phase.proofs.{Stepped.IsStepped, PhaseAnswers.{LeadsTo, ahead, answer, last_is, back_no_later, last_no_earlier, first_no_later}, DelaySteps.next_rises}
 
 module _ (stops : List Stop) (stepped : (place : ℕ) → place < length stops → IsStepped (pace_at stops place)) (write : ℕ) where
   module _ (from hops : ℕ) (Starts Ends : ℤ → Type 0) (within : from + suc hops < length stops) (starts_there : LeadsTo Starts (pace_at stops from))

@@ -3,33 +3,13 @@
 use Rattle.std.proofs.Common.{◌≡◌, ℕ, ℤ, pos, negsuc, zero, suc, ◌+◌, ◌-◌, ◌<◌, ◌≤◌, true, List, [], ◌∷◌, length, get_or, refl, sym, ap, ◌∙◌, arith}
 use Rattle.std.specs.Prelude.{◌+ℤ◌, ◌-ℤ◌, ◌≤ℤ◌, All}
 use Rattle.std.proofs.lemmas.Int.{ints}
-use Rattle.cl_model.specs.declared.group.Group.{Group}
-use Rattle.cl_model.specs.declared.stimulus.StimulusKind.{StimulusKind}
-use Rattle.cl_model.specs.declared.stimulus.StimulusKind.TheVariants.{Periodic}
-use Rattle.cl_model.specs.Groups.{no_group}
-use Rattle.cl_model.specs.Holds.{greatest_by}
-use Rattle.cl_model.specs.Timing.{least_distance, greatest_distance}
+use Rattle.cl_model.specs.{declared.{group.Group.Group, stimulus.StimulusKind.{StimulusKind, TheVariants.Periodic}}, Groups.no_group, Holds.greatest_by, Timing.{least_distance, greatest_distance}}
 use Rattle.cl_model.proofs.Greatest.{greatest_least, greatest_within}
-use Rattle.cl_runs.specs.Pattern.{IsPattern}
-use Rattle.cl_runs.specs.TaskTiming.{System, timing_at, IsSound}
-use Rattle.cl_runs.specs.Chains.{first_group}
-use Rattle.cl_bound.specs.declared.group_timing.GroupTiming.{GroupTiming}
-use Rattle.cl_bound.specs.SettledChains.{IsGroupOfTask}
-use Rattle.cl_bound.specs.Timings.{AlwaysKeeps}
-use Rattle.cl_phase.specs.declared.stop.Stop.{Stop}
-use Rattle.cl_phase.specs.Pace.{first_from, last_by, previous, next}
-use Rattle.cl_phase.specs.Walks.{no_stop, pace_at, lag_at, onward, back, arrival_at_first}
-use Rattle.cl_phase.specs.TightBounds.{stops_beside, stops_of, hyperperiod_in, slowest, starts, ticks_or_none, span_of, last_write, length_from, delay_from, bounds_from, tight_bounds}
-use Rattle.cl_phase.specs.EarlyReads.{ReadsBeforeNext}
-use Rattle.cl_phase.proofs.Stepped.{IsStepped}
-use Rattle.cl_phase.proofs.PatternPaces.{IsPaceOf, pace_step}
-use Rattle.cl_phase.proofs.RunWalks.{span_is}
-use Rattle.cl_phase.proofs.StopFacts.{stop_pace, stops_step}
-use Rattle.cl_phase.proofs.WiderWalks.{greatest_rises}
-use Rattle.cl_phase.proofs.DelaySteps.{next_near, next_far}
-use Rattle.cl_phase.proofs.DelaySafety.{last_write_is}
-use Rattle.cl_phase.proofs.DelayReads.{timed_reads_at_once}
-use Rattle.cl_phase.proofs.DelayExists.{delay_takes_time}
+use Rattle.cl_runs.specs.{Pattern.IsPattern, TaskTiming.{System, timing_at, IsSound}, Chains.first_group}
+use Rattle.cl_bound.specs.{declared.group_timing.GroupTiming.GroupTiming, SettledChains.IsGroupOfTask, Timings.AlwaysKeeps}
+use Rattle.cl_phase.specs.{declared.stop.Stop.Stop, Pace.{first_from, last_by, previous, next}, Walks.{no_stop, pace_at, lag_at, onward, back, arrival_at_first}, TightBounds.{stops_beside, stops_of, hyperperiod_in, slowest, starts, ticks_or_none, span_of, last_write, length_from}}
+use Rattle.cl_phase.specs.{TightBounds.{delay_from, bounds_from, tight_bounds}, EarlyReads.ReadsBeforeNext}
+use Rattle.cl_phase.proofs.{Stepped.IsStepped, PatternPaces.{IsPaceOf, pace_step}, RunWalks.span_is, StopFacts.{stop_pace, stops_step}, WiderWalks.greatest_rises, DelaySteps.{next_near, next_far}, DelaySafety.last_write_is, DelayReads.timed_reads_at_once, DelayExists.delay_takes_time}
 
 -- ---- from one arrival
 

@@ -3,23 +3,12 @@
 use Rattle.std.proofs.Common.{◌≡◌, ℕ, ◌-◌, ◌≤◌, true, [], ◌∷◌, sym, ◌∙◌, arith}
 use Rattle.std.proofs.lemmas.Bool.{true≢false}
 use Rattle.std.proofs.lemmas.List.Elements.{All-cons, All-nil}
-use Rattle.cl_model.specs.declared.chain.LengthKind.TheVariants.{Reaction}
-use Rattle.cl_model.specs.declared.group.Group.{Group}
-use Rattle.cl_model.specs.declared.task.AccessKind.{AccessKind}
-use Rattle.cl_model.specs.declared.task.AccessKind.TheVariants.{Explicit, Implicit, Timed}
-use Rattle.cl_model.specs.Kinds.{is_timed}
-use Rattle.cl_runs.specs.TaskTiming.{System, timing_at, IsSound}
-use Rattle.cl_runs.specs.Table.{job_at}
-use Rattle.cl_runs.specs.Run.{Run, jobs_of}
-use Rattle.cl_runs.specs.Moments.{ReadsBy, Reads, Writes}
-use Rattle.cl_runs.specs.Chains.{first_job}
-use Rattle.cl_runs.specs.RunChains.{run_moments}
+use Rattle.cl_model.specs.{declared.{chain.LengthKind.TheVariants.Reaction, group.Group.Group, task.AccessKind.{AccessKind, TheVariants.{Explicit, Implicit, Timed}}}, Kinds.is_timed}
+use Rattle.cl_runs.specs.{TaskTiming.{System, timing_at, IsSound}, Table.job_at, Run.{Run, jobs_of}, Moments.{ReadsBy, Reads, Writes}, Chains.first_job, RunChains.run_moments}
 use Rattle.cl_runs.proofs.MomentFacts.{has_read}
-use Rattle.cl_bound.specs.declared.group_timing.GroupTiming.{GroupTiming}
-use Rattle.cl_bound.specs.Timings.{AlwaysKeeps}
+use Rattle.cl_bound.specs.{declared.group_timing.GroupTiming.GroupTiming, Timings.AlwaysKeeps}
 use Rattle.cl_bound.proofs.LaterRuns.{writes_in_time}
-use Rattle.cl_phase.specs.CompleteChains.{HasChainOfKind, HasCompleteChains}
-use Rattle.cl_phase.specs.EarlyReads.{ReadsBeforeNext}
+use Rattle.cl_phase.specs.{CompleteChains.{HasChainOfKind, HasCompleteChains}, EarlyReads.ReadsBeforeNext}
 use Rattle.cl_phase.proofs.ChainsComplete.{has_complete_chains}
 
 -- a timed job reads at its arrival

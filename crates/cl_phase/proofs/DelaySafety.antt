@@ -2,37 +2,15 @@
 use Rattle.std.proofs.Common.{◌≡◌, ℕ, ℤ, pos, zero, suc, ◌+◌, ◌-◌, ◌<◌, ◌≤◌, List, [], ◌∷◌, length, refl, ap, ◌∙◌, subst, sym, arith}
 use Rattle.std.specs.Prelude.{slice_index, ◌+ℤ◌, ◌-ℤ◌, ◌≤ℤ◌, All}
 use Rattle.std.proofs.lemmas.Int.{ints}
-use Rattle.cl_model.specs.declared.group.Group.{Group}
-use Rattle.cl_model.specs.Groups.{group_at}
-use Rattle.cl_runs.specs.TaskTiming.{System, timing_at, IsSound}
-use Rattle.cl_runs.specs.Table.{job_at}
-use Rattle.cl_runs.specs.Run.{Run, jobs_of}
-use Rattle.cl_runs.specs.Legal.{IsLegal}
-use Rattle.cl_runs.specs.Chains.{JobChain, chain_length, last_group, last_job}
-use Rattle.cl_runs.specs.RunChains.{run_moments}
+use Rattle.cl_model.specs.{declared.group.Group.Group, Groups.group_at}
+use Rattle.cl_runs.specs.{TaskTiming.{System, timing_at, IsSound}, Table.job_at, Run.{Run, jobs_of}, Legal.IsLegal, Chains.{JobChain, chain_length, last_group, last_job}, RunChains.run_moments, Delays.IsDelayChain}
 use Rattle.cl_stim.proofs.RunPhases.{run_arrives}
-use Rattle.cl_bound.specs.declared.group_timing.GroupTiming.{GroupTiming}
-use Rattle.cl_bound.specs.SettledChains.{IsGroupOfTask}
-use Rattle.cl_bound.proofs.AlongChains.{last_timing}
-use Rattle.cl_bound.proofs.LaterRuns.{writes_in_time}
-use Rattle.cl_bound.proofs.LagBounds.{forward_lag}
-use Rattle.cl_bound.proofs.ChainBounds.{AreAlwaysKept}
-use Rattle.cl_phase.specs.declared.pace.Pace.{Pace}
-use Rattle.cl_phase.specs.declared.pace.Pace.TheVariants.{Kept, Free}
-use Rattle.cl_phase.specs.declared.stop.Stop.{Stop}
-use Rattle.cl_runs.specs.Delays.{IsDelayChain}
-use Rattle.cl_phase.specs.Pace.{IsPace, previous, next, AreNeighbours}
-use Rattle.cl_phase.specs.Walks.{pace_at, lag_at, last_place, arrival_at_first}
-use Rattle.cl_phase.specs.TightBounds.{stops_of, slowest, delay_from, span_of, last_write, bounds_from, tight_bounds}
-use Rattle.cl_phase.proofs.Stepped.{IsStepped}
-use Rattle.cl_phase.proofs.PatternPaces.{IsPaceOf}
-use Rattle.cl_phase.proofs.Walking.{AreLinkedJobs, last_by_walk, first_from_walk}
-use Rattle.cl_phase.proofs.WalkStarts.{AreStops, IsArrivalAt, after_arrives}
-use Rattle.cl_phase.proofs.RunWalks.{arrival_in, lag_between, AreStopsOf, follows}
-use Rattle.cl_phase.proofs.StopFacts.{stop_pace, stop_is_pace}
-use Rattle.cl_phase.proofs.StopsOfGroups.{have_stops}
-use Rattle.cl_phase.proofs.DelaySteps.{next_rises, arrival_neighbours, next_of_previous}
-use Rattle.cl_phase.proofs.DelayWalks.{delay_bounded}
+use Rattle.cl_bound.specs.{declared.group_timing.GroupTiming.GroupTiming, SettledChains.IsGroupOfTask}
+use Rattle.cl_bound.proofs.{AlongChains.last_timing, LaterRuns.writes_in_time, LagBounds.forward_lag, ChainBounds.AreAlwaysKept}
+use Rattle.cl_phase.specs.{declared.{pace.Pace.{Pace, TheVariants.{Kept, Free}}, stop.Stop.Stop}, Pace.{IsPace, previous, next, AreNeighbours}, Walks.{pace_at, lag_at, last_place, arrival_at_first}, TightBounds.{stops_of, slowest, delay_from, span_of, last_write, bounds_from}}
+use Rattle.cl_phase.specs.TightBounds.{tight_bounds}
+use Rattle.cl_phase.proofs.{Stepped.IsStepped, PatternPaces.IsPaceOf, Walking.{AreLinkedJobs, last_by_walk, first_from_walk}, WalkStarts.{AreStops, IsArrivalAt, after_arrives}, RunWalks.{arrival_in, lag_between, AreStopsOf, follows}, StopFacts.{stop_pace, stop_is_pace}}
+use Rattle.cl_phase.proofs.{StopsOfGroups.have_stops, DelaySteps.{next_rises, arrival_neighbours, next_of_previous}, DelayWalks.delay_bounded}
 
 -- ---- walks cover jobs
 

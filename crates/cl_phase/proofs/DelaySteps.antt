@@ -3,22 +3,13 @@
 use Rattle.std.proofs.Common.{◌≡◌, ℕ, ℤ, pos, suc, ◌+◌, ◌*◌, ◌<◌, ◌≤◌, ◌+ℤ◌, ◌-ℤ◌, ◌≤ℤ◌, inl, inr, Some, None, unwrap_or, refl, sym, ap, ◌∙◌, arith, mul-le-mul_right}
 use Rattle.std.proofs.lemmas.Bool.{cases_lt}
 use Rattle.std.proofs.lemmas.Int.{ints, by_lt_z}
-use Rattle.cl_model.specs.declared.stimulus.StimulusKind.{StimulusKind}
-use Rattle.cl_model.specs.declared.stimulus.StimulusKind.TheVariants.{Periodic, Sporadic, Burst}
-use Rattle.cl_model.specs.Timing.{least_distance}
+use Rattle.cl_model.specs.{declared.stimulus.StimulusKind.{StimulusKind, TheVariants.{Periodic, Sporadic, Burst}}, Timing.least_distance}
 use Rattle.cl_runs.specs.Pattern.{IsPattern}
 use Rattle.cl_runs.proofs.PatternFacts.{distances_ordered}
-use Rattle.cl_stim.specs.declared.phase.Phase.{Phase}
-use Rattle.cl_stim.specs.Phase.{IsPhase, IsArrivalOf, phase_of, first_arrival, last_arrival}
-use Rattle.cl_stim.proofs.PatternPhases.{phase_is}
-use Rattle.cl_stim.proofs.PhaseSteps.{begin, in_order, arrival_lies, first_arrives, first_after, last_arrives, last_before, last_after}
-use Rattle.cl_phase.specs.declared.pace.Pace.{Pace}
-use Rattle.cl_phase.specs.declared.pace.Pace.TheVariants.{Kept, Free}
-use Rattle.cl_phase.specs.Pace.{IsPace, first_from, last_by, previous, next, ComesRound, AreNeighbours, greatest_step}
-use Rattle.cl_phase.proofs.PatternPaces.{IsPaceOf}
-use Rattle.cl_phase.proofs.Stepped.{IsStepped}
-use Rattle.cl_phase.proofs.WalksBothWays.{first_rises}
-use Rattle.cl_phase.proofs.WalkStarts.{IsArrivalAt}
+use Rattle.cl_stim.specs.{declared.phase.Phase.Phase, Phase.{IsPhase, IsArrivalOf, phase_of, first_arrival, last_arrival}}
+use Rattle.cl_stim.proofs.{PatternPhases.phase_is, PhaseSteps.{begin, in_order, arrival_lies, first_arrives, first_after, last_arrives, last_before, last_after}}
+use Rattle.cl_phase.specs.{declared.pace.Pace.{Pace, TheVariants.{Kept, Free}}, Pace.{IsPace, first_from, last_by, previous, next, ComesRound, AreNeighbours, greatest_step}}
+use Rattle.cl_phase.proofs.{PatternPaces.IsPaceOf, Stepped.IsStepped, WalksBothWays.first_rises, WalkStarts.IsArrivalAt}
 
 module _ (pace : Pace) (stepped : IsStepped pace) where
   pub next_rises : (from to : ℤ) → from ≤ℤ to → next pace from ≤ℤ next pace to

@@ -2,13 +2,8 @@
 use Rattle.std.proofs.Common.{◌≡◌, ℕ, ℤ, pos, zero, suc, ◌-◌, ◌<◌, ◌≤◌, List, length, ap, arith}
 use Rattle.std.specs.Prelude.{◌+ℤ◌, ◌-ℤ◌, ◌≤ℤ◌}
 use Rattle.std.proofs.lemmas.Int.{ints}
-use Rattle.cl_phase.specs.declared.stop.Stop.{Stop}
-use Rattle.cl_phase.specs.Pace.{previous, next}
-use Rattle.cl_phase.specs.Walks.{pace_at, lag_at, back, last_place, arrival_at_first}
-use Rattle.cl_phase.specs.TightBounds.{delay_from}
-use Rattle.cl_phase.proofs.Stepped.{IsStepped}
-use Rattle.cl_phase.proofs.WalkSums.{step_at, ahead, last_near}
-use Rattle.cl_phase.proofs.DelaySteps.{next_near, next_past}
+use Rattle.cl_phase.specs.{declared.stop.Stop.Stop, Pace.{previous, next}, Walks.{pace_at, lag_at, back, last_place, arrival_at_first}, TightBounds.delay_from}
+use Rattle.cl_phase.proofs.{Stepped.IsStepped, WalkSums.{step_at, ahead, last_near}, DelaySteps.{next_near, next_past}}
 
 -- where the arrival after one lies at most so far on, and that after an earlier one so far on from the first of them
 one_hop : (arrival after before following step lag sum more sums : ℤ) → after ≤ℤ (before +ℤ step) → ((before -ℤ lag) +ℤ pos 1) ≤ℤ following

@@ -3,14 +3,8 @@
 use Rattle.std.proofs.Common.{◌≡◌, ℕ, ℤ, pos, ◌<◌, inl, inr, List, length, sym, arith}
 use Rattle.std.specs.Prelude.{◌+ℤ◌, ◌-ℤ◌, ◌≤ℤ◌}
 use Rattle.std.proofs.lemmas.Int.{ints}
-use Rattle.cl_phase.specs.declared.stop.Stop.{Stop}
-use Rattle.cl_phase.specs.Pace.{ComesRound}
-use Rattle.cl_phase.specs.Walks.{pace_at, arrival_at_first}
-use Rattle.cl_phase.specs.TightBounds.{ticks_or_none, delay_from, bounds_from}
-use Rattle.cl_phase.proofs.Stepped.{IsStepped}
-use Rattle.cl_phase.proofs.WalksMove.{last_moves, first_moves}
-use Rattle.cl_phase.proofs.WalkStarts.{AreStops, IsArrivalAt, HasStart, start_of, from_start}
-use Rattle.cl_phase.proofs.DelaySteps.{next_moves}
+use Rattle.cl_phase.specs.{declared.stop.Stop.Stop, Pace.ComesRound, Walks.{pace_at, arrival_at_first}, TightBounds.{ticks_or_none, delay_from, bounds_from}}
+use Rattle.cl_phase.proofs.{Stepped.IsStepped, WalksMove.{last_moves, first_moves}, WalkStarts.{AreStops, IsArrivalAt, HasStart, start_of, from_start}, DelaySteps.next_moves}
 
 same_delay : (last moved_last first moved_first more write : ℤ) → moved_last ≡ (last +ℤ more) → moved_first ≡ (first +ℤ more)
     → ((moved_last -ℤ moved_first) +ℤ write) ≡ ((last -ℤ first) +ℤ write)

@@ -5,12 +5,8 @@ use Rattle.std.specs.Prelude.{ℤ, pos, ◌≤ℤ◌}
 use Rattle.std.proofs.lemmas.Bool.{cases_lt}
 use Rattle.std.proofs.lemmas.Int.{ints}
 use Rattle.cl_bound.specs.Bounds.{Lengths}
-use Rattle.cl_phase.specs.declared.stop.Stop.{Stop}
-use Rattle.cl_phase.specs.Walks.{pace_at}
-use Rattle.cl_phase.specs.TightBounds.{length_from, reduced_from, delay_from, bounds_from}
-use Rattle.cl_phase.proofs.Stepped.{IsStepped}
-use Rattle.cl_phase.proofs.DelayPhases.{ahead_lasts, answer_lasts}
-use Rattle.cl_phase.proofs.PhaseAnswers.{LeadsTo, ahead, ahead_arrives, ahead_longer, ahead_longer_reduced, answer, answer_arrives, answer_longer, answer_longer_reduced}
+use Rattle.cl_phase.specs.{declared.stop.Stop.Stop, Walks.pace_at, TightBounds.{length_from, reduced_from, delay_from, bounds_from}}
+use Rattle.cl_phase.proofs.{Stepped.IsStepped, DelayPhases.{ahead_lasts, answer_lasts}, PhaseAnswers.{LeadsTo, ahead, ahead_arrives, ahead_longer, ahead_longer_reduced, answer, answer_arrives, answer_longer, answer_longer_reduced}}
 
 -- an arrival has this value
 pub record HasValue (Arrives : ℤ → Type 0) (value : ℤ → ℤ) (number : ℕ) : Type 0 where

@@ -3,16 +3,9 @@ use Rattle.std.proofs.Common.{◌≡◌, ℕ, ◌+◌, ◌-◌, ◌*◌, ◌/◌
 use Rattle.std.proofs.Math.Nat.{div-mul_cancel, dvd-mul_left, dvd-mul_left_of_dvd, mul-le-mul_left}
 use Rattle.std.proofs.lemmas.Bool.{cases_lt}
 use Rattle.std.proofs.lemmas.Int.{ints}
-use Rattle.cl_phase.specs.declared.pace.Pace.{Pace}
-use Rattle.cl_phase.specs.declared.pace.Pace.TheVariants.{Kept, Free}
-use Rattle.cl_phase.specs.declared.stop.Stop.{Stop}
-use Rattle.cl_phase.specs.Pace.{IsPace, ComesRound, first_from, last_by, previous}
-use Rattle.cl_phase.specs.Walks.{pace_at, lag_at, onward, back, last_place, arrival_at_last, arrival_at_first}
-use Rattle.cl_phase.specs.Inner.Ranges.{AreStopsInRange}
+use Rattle.cl_phase.specs.{declared.{pace.Pace.{Pace, TheVariants.{Kept, Free}}, stop.Stop.Stop}, Pace.{IsPace, ComesRound, first_from, last_by, previous}, Walks.{pace_at, lag_at, onward, back, last_place, arrival_at_last, arrival_at_first}, Inner.Ranges.AreStopsInRange}
 use Rattle.cl_phase.specs.Inner.Even.{AreEvenTurns, LeadsEvenly}
-use Rattle.cl_phase.proofs.PaceSteps.{paces_step}
-use Rattle.cl_phase.proofs.WalkRanges.{goes_on, onward_more, back_more}
-use Rattle.cl_phase.proofs.WalksBothWays.{first_rises, last_rises}
+use Rattle.cl_phase.proofs.{PaceSteps.paces_step, WalkRanges.{goes_on, onward_more, back_more}, WalksBothWays.{first_rises, last_rises}}
 
 -- ---- what a step is
 

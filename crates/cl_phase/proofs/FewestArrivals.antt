@@ -8,11 +8,8 @@ use Rattle.std.proofs.lemmas.Nat.{div-mul-add, div-add-mod', mul-le}
 use Rattle.std.proofs.lemmas.List.Elements.{All-head, All-tail}
 use Rattle.std.proofs.Math.Nat.{div-mul_cancel}
 use Rattle.cl_model.specs.declared.limits.TheConstants.{MOST_TICKS}
-use Rattle.cl_stim.specs.declared.phase.Phase.{Phase}
-use Rattle.cl_stim.specs.Phase.{IsPhaseInRange, arrivals_in}
-use Rattle.cl_phase.specs.declared.pace.TheConstants.{MOST_ARRIVALS}
-use Rattle.cl_phase.specs.Inner.Ranges.{LONGEST_HYPERPERIOD}
-use Rattle.cl_phase.specs.Inner.Keeping.{fewest_in}
+use Rattle.cl_stim.specs.{declared.phase.Phase.Phase, Phase.{IsPhaseInRange, arrivals_in}}
+use Rattle.cl_phase.specs.{declared.pace.TheConstants.MOST_ARRIVALS, Inner.{Ranges.LONGEST_HYPERPERIOD, Keeping.fewest_in}}
 use Rattle.cl_stim.proofs.Hyperperiods.{Divides}
 
 -- whether one of the phases has few arrivals

@@ -1,10 +1,8 @@
 -- Over moments that last long enough, groups whose jobs keep up have a complete forward chain.
 use Rattle.std.proofs.Common.{◌≡◌, ℕ, zero, suc, ◌+◌, ◌-◌, ◌<◌, ◌≤◌, List, [], ◌∷◌, length, refl, sym, ap, subst, arith}
 use Rattle.std.specs.Prelude.{slice_index}
-use Rattle.cl_model.specs.declared.group.Group.{Group}
-use Rattle.cl_model.specs.Groups.{group_at}
-use Rattle.cl_runs.specs.Chains.{Moments, HasWritten, IsEarliestReader, JobChain, last_group, IsForwardChain}
-use Rattle.cl_runs.specs.MomentOrder.{AreInOrder}
+use Rattle.cl_model.specs.{declared.group.Group.Group, Groups.group_at}
+use Rattle.cl_runs.specs.{Chains.{Moments, HasWritten, IsEarliestReader, JobChain, last_group, IsForwardChain}, MomentOrder.AreInOrder}
 use Rattle.cl_phase.proofs.JobsInTime.{HasJobsBy, KeepsUp, AllKeepUp, HasReader, later_by, has_reader}
 
 -- what a complete forward chain asks of its jobs

@@ -2,10 +2,8 @@
 -- each read that is late enough a latest writer.
 use Rattle.std.proofs.Common.{◌≡◌, ℕ, suc, ◌<◌, ◌≤◌, inl, inr, List, [], ◌∷◌, length, subst, arith}
 use Rattle.std.proofs.lemmas.Bool.{cases_lt}
-use Rattle.cl_model.specs.declared.group.Group.{Group}
-use Rattle.cl_model.specs.Groups.{group_at}
-use Rattle.cl_runs.specs.Chains.{Moments, IsEarliestReader, IsLatestWriter}
-use Rattle.cl_runs.specs.MomentOrder.{AreInOrder}
+use Rattle.cl_model.specs.{declared.group.Group.Group, Groups.group_at}
+use Rattle.cl_runs.specs.{Chains.{Moments, IsEarliestReader, IsLatestWriter}, MomentOrder.AreInOrder}
 use Rattle.cl_phase.proofs.FirstPast.{passes_at}
 
 -- a job of a group reads, no earlier than its number says, and then writes, by some moment

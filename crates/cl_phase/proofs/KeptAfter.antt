@@ -3,17 +3,9 @@
 use Rattle.std.proofs.Common.{◌≡◌, ℕ, ◌-◌, ◌^◌, ◌≤◌, List, [], ◌∷◌, ◌++◌, map, min, All, Option, Some, None, refl, ◌∙◌, arith}
 use Rattle.std.proofs.lemmas.Nat.Gcd.{dvd_antisymm}
 use Rattle.std.proofs.lemmas.List.Elements.{All-head, All-tail, All-cons, All-nil}
-use Rattle.cl_stim.specs.declared.phase.Phase.{Phase}
-use Rattle.cl_stim.specs.Phase.{IsPhaseInRange, arrivals_in}
-use Rattle.cl_stim.specs.Multiples.{hyperperiod_of}
-use Rattle.cl_phase.specs.declared.pace.Pace.{Pace}
-use Rattle.cl_phase.specs.declared.pace.Pace.TheVariants.{Kept, Free}
-use Rattle.cl_phase.specs.declared.keeping.Keeping.{Keeping}
-use Rattle.cl_phase.specs.declared.stop.Stop.{Stop}
-use Rattle.cl_phase.specs.Kept.{kept_with, pace_with, phases_in}
-use Rattle.cl_phase.specs.Inner.Keeping.{fewest_in, AreKept, AreKeptIn}
-use Rattle.cl_phase.proofs.KeptPhases.{have_periods}
-use Rattle.cl_phase.proofs.SlowestGroups.{pace_of}
+use Rattle.cl_stim.specs.{declared.phase.Phase.Phase, Phase.{IsPhaseInRange, arrivals_in}, Multiples.hyperperiod_of}
+use Rattle.cl_phase.specs.{declared.{pace.Pace.{Pace, TheVariants.{Kept, Free}}, keeping.Keeping.Keeping, stop.Stop.Stop}, Kept.{kept_with, pace_with, phases_in}, Inner.Keeping.{fewest_in, AreKept, AreKeptIn}}
+use Rattle.cl_phase.proofs.{KeptPhases.have_periods, SlowestGroups.pace_of}
 use Rattle.cl_stim.proofs.Hyperperiods.{Divides, hyperperiod_divided, hyperperiod_least}
 
 -- the phase that a pace keeps

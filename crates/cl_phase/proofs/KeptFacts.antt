@@ -5,16 +5,9 @@ use Rattle.std.specs.Prelude.{slice_index_or}
 use Rattle.std.specs.List.{list_all}
 use Rattle.std.proofs.lemmas.Bool.{cases_lt, and_from, and_parts, le-leb, leb-true}
 use Rattle.std.proofs.lemmas.List.Elements.{All-head, All-tail, All-cons, All-nil}
-use Rattle.cl_stim.specs.declared.phase.Phase.{Phase}
-use Rattle.cl_stim.specs.Phase.{arrivals_in}
-use Rattle.cl_stim.proofs.TurnFacts.{period_some}
-use Rattle.cl_stim.specs.Multiples.{hyperperiod_of}
-use Rattle.cl_phase.specs.declared.pace.Pace.{Pace}
-use Rattle.cl_phase.specs.declared.pace.Pace.TheVariants.{Kept, Free}
-use Rattle.cl_phase.specs.Pace.{IsPace, ComesRound}
-use Rattle.cl_phase.specs.Kept.{phases_in}
-use Rattle.cl_phase.specs.TightBounds.{has_no_fewer}
-use Rattle.cl_stim.proofs.Hyperperiods.{HasPeriod, Divides, hyperperiod_positive, hyperperiod_divided}
+use Rattle.cl_stim.specs.{declared.phase.Phase.Phase, Phase.arrivals_in, Multiples.hyperperiod_of}
+use Rattle.cl_stim.proofs.{TurnFacts.period_some, Hyperperiods.{HasPeriod, Divides, hyperperiod_positive, hyperperiod_divided}}
+use Rattle.cl_phase.specs.{declared.pace.Pace.{Pace, TheVariants.{Kept, Free}}, Pace.{IsPace, ComesRound}, Kept.phases_in, TightBounds.has_no_fewer}
 
 -- a pace that keeps its phase isn't one without
 pub kept_or_free : (phase : Phase) (greatest : ℕ) → Kept phase ≡ Free greatest → ⊥

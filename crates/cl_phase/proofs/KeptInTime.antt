@@ -2,23 +2,10 @@
 -- run lasts until then.
 use Rattle.std.proofs.Common.{ℕ, zero, suc, ◌+◌, ◌*◌, ◌<◌, ◌≤◌, List, [], ◌∷◌, length, arith}
 use Rattle.std.proofs.Math.Nat.{mul-le-mul_right}
-use Rattle.cl_model.specs.declared.group.Group.{Group}
-use Rattle.cl_model.specs.declared.stimulus.StimulusKind.{StimulusKind}
-use Rattle.cl_model.specs.Groups.{group_at}
-use Rattle.cl_model.specs.Timing.{greatest_distance}
-use Rattle.cl_runs.specs.declared.job.Job.{Job}
-use Rattle.cl_runs.specs.Pattern.{first_greatest}
-use Rattle.cl_runs.specs.Arrivals.{FollowPattern}
-use Rattle.cl_runs.specs.TaskTiming.{System, timing_at, IsSound}
-use Rattle.cl_runs.specs.Table.{job_at}
-use Rattle.cl_runs.specs.Run.{Run, jobs_of}
-use Rattle.cl_runs.specs.Legal.{IsLegal}
-use Rattle.cl_runs.specs.MomentOrder.{HaveReadBeforeWriting}
-use Rattle.cl_runs.specs.RunChains.{run_moments}
-use Rattle.cl_runs.proofs.MomentFacts.{has_read}
-use Rattle.cl_runs.proofs.RunArrivals.{follow_pattern, arrivals_rise, next_within, next_due}
-use Rattle.cl_bound.specs.Timings.{AlwaysKeeps}
-use Rattle.cl_bound.specs.declared.group_timing.GroupTiming.{GroupTiming}
+use Rattle.cl_model.specs.{declared.{group.Group.Group, stimulus.StimulusKind.StimulusKind}, Groups.group_at, Timing.greatest_distance}
+use Rattle.cl_runs.specs.{declared.job.Job.Job, Pattern.first_greatest, Arrivals.FollowPattern, TaskTiming.{System, timing_at, IsSound}, Table.job_at, Run.{Run, jobs_of}, Legal.IsLegal, MomentOrder.HaveReadBeforeWriting, RunChains.run_moments}
+use Rattle.cl_runs.proofs.{MomentFacts.has_read, RunArrivals.{follow_pattern, arrivals_rise, next_within, next_due}}
+use Rattle.cl_bound.specs.{Timings.AlwaysKeeps, declared.group_timing.GroupTiming.GroupTiming}
 use Rattle.cl_bound.proofs.ChainBounds.{AreAlwaysKept}
 use Rattle.cl_phase.proofs.JobsInTime.{KeepsUp}
 

@@ -6,22 +6,11 @@ use Rattle.std.proofs.lemmas.Nat.Gcd.{dvd_antisymm}
 use Rattle.std.proofs.lemmas.List.Elements.{All-cons, All-weaker}
 use Rattle.std.proofs.Math.Nat.{div-mul_cancel}
 use Rattle.cl_time.specs.Divisors.{IsLcm}
-use Rattle.cl_model.specs.declared.stimulus.StimulusKind.{StimulusKind}
-use Rattle.cl_model.specs.declared.stimulus.StimulusKind.TheVariants.{Periodic, Sporadic, Burst}
-use Rattle.cl_model.specs.Ranges.{IsKindInRange}
-use Rattle.cl_model.specs.Timing.{IsKindOrdered, greatest_distance}
-use Rattle.cl_stim.specs.declared.phase.Phase.{Phase}
-use Rattle.cl_stim.specs.Phase.{IsPhaseInRange, phase_of, arrivals_in}
-use Rattle.cl_stim.specs.Multiples.{common_multiple, hyperperiod_of}
-use Rattle.cl_stim.proofs.Multiples.{common_is_least}
-use Rattle.cl_phase.specs.declared.pace.TheConstants.{MOST_ARRIVALS}
-use Rattle.cl_phase.specs.declared.pace.Pace.TheVariants.{Free}
-use Rattle.cl_phase.specs.declared.keeping.Keeping.{Keeping}
-use Rattle.cl_phase.specs.Kept.{come_round_soon, phase_beside, pace_with, kept_with}
-use Rattle.cl_phase.specs.Inner.Ranges.{LONGEST_HYPERPERIOD, IsPaceInRange}
-use Rattle.cl_phase.specs.Inner.Keeping.{fewest_in, AreKept, AreKeptWith, IsBeside}
+use Rattle.cl_model.specs.{declared.stimulus.StimulusKind.{StimulusKind, TheVariants.{Periodic, Sporadic, Burst}}, Ranges.IsKindInRange, Timing.{IsKindOrdered, greatest_distance}}
+use Rattle.cl_stim.specs.{declared.phase.Phase.Phase, Phase.{IsPhaseInRange, phase_of, arrivals_in}, Multiples.{common_multiple, hyperperiod_of}}
+use Rattle.cl_stim.proofs.{Multiples.common_is_least, Hyperperiods.{HasPeriod, Divides, hyperperiod_positive, hyperperiod_divided}}
+use Rattle.cl_phase.specs.{declared.{pace.{TheConstants.MOST_ARRIVALS, Pace.TheVariants.Free}, keeping.Keeping.Keeping}, Kept.{come_round_soon, phase_beside, pace_with, kept_with}, Inner.{Ranges.{LONGEST_HYPERPERIOD, IsPaceInRange}, Keeping.{fewest_in, AreKept, AreKeptWith, IsBeside}}}
 use Rattle.cl_phase.proofs.FewestArrivals.{few_by_fewest, fewest_longer, none_has_few}
-use Rattle.cl_stim.proofs.Hyperperiods.{HasPeriod, Divides, hyperperiod_positive, hyperperiod_divided}
 
 pub have_periods : (phases : List Phase) → All IsPhaseInRange phases → All HasPeriod phases
 have_periods phases are = All-weaker IsPhaseInRange HasPeriod (λ phase is. omega (arith, is.offset)) phases are

@@ -2,26 +2,15 @@
 -- walks from its arrivals last, wherever these lie; so all of them give the same bounds, the tight ones.
 use Rattle.std.proofs.Common.{◌≡◌, ℕ, ◌<◌, ◌≤◌, List, [], length, sym, ap, subst, ◌∙◌, arith, inl, inr}
 use Rattle.std.specs.Prelude.{ℤ, pos, negsuc, ◌≤ℤ◌, All}
-use Rattle.cl_model.specs.declared.group.Group.{Group}
-use Rattle.cl_model.specs.Holds.{greatest_by}
+use Rattle.cl_model.specs.{declared.group.Group.Group, Holds.greatest_by}
 use Rattle.cl_runs.specs.TaskTiming.{System, IsSound}
-use Rattle.cl_stim.specs.declared.phase.Phase.{Phase}
-use Rattle.cl_stim.specs.Phase.{IsPhase, IsArrivalOf}
+use Rattle.cl_stim.specs.{declared.phase.Phase.Phase, Phase.{IsPhase, IsArrivalOf}}
 use Rattle.cl_stim.proofs.PhaseSteps.{first_arrives, first_after, first_before, last_arrives, last_before, last_after}
-use Rattle.cl_bound.specs.declared.group_timing.GroupTiming.{GroupTiming}
-use Rattle.cl_bound.specs.SettledChains.{IsGroupOfTask}
-use Rattle.cl_phase.specs.declared.pace.Pace.TheVariants.{Kept}
-use Rattle.cl_phase.specs.declared.stop.Stop.{Stop}
-use Rattle.cl_phase.specs.Pace.{IsPace, first_from, last_by}
-use Rattle.cl_phase.specs.Walks.{pace_at}
-use Rattle.cl_phase.specs.TightBounds.{stops_of, hyperperiod_in, slowest, starts, ticks_or_none, length_from, reduced_from, delay_from, bounds_from, span_of, last_write, tight_bounds}
-use Rattle.cl_phase.proofs.StartFacts.{start_within, start_reached}
-use Rattle.cl_phase.proofs.SlowestFacts.{slowest_within, slowest_is_kept}
-use Rattle.cl_phase.proofs.StopFacts.{length_stops, stop_is_pace, stops_step, stops_come_round, stops_hyperperiod}
-use Rattle.cl_phase.proofs.WalkStarts.{AreStops, IsArrivalAt, length_bounded, reduced_bounded}
-use Rattle.cl_phase.proofs.DelayWalks.{delay_bounded}
-use Rattle.cl_phase.proofs.PhaseAnswers.{LeadsTo}
-use Rattle.cl_phase.proofs.EachPhase.{IsGreatestOver, AreOverAll, each_phase}
+use Rattle.cl_bound.specs.{declared.group_timing.GroupTiming.GroupTiming, SettledChains.IsGroupOfTask}
+use Rattle.cl_phase.specs.{declared.{pace.Pace.TheVariants.Kept, stop.Stop.Stop}, Pace.{IsPace, first_from, last_by}, Walks.pace_at, TightBounds.{stops_of, hyperperiod_in, slowest, starts, ticks_or_none, length_from, reduced_from, delay_from, bounds_from, span_of, last_write}}
+use Rattle.cl_phase.specs.TightBounds.{tight_bounds}
+use Rattle.cl_phase.proofs.{StartFacts.{start_within, start_reached}, SlowestFacts.{slowest_within, slowest_is_kept}, StopFacts.{length_stops, stop_is_pace, stops_step, stops_come_round, stops_hyperperiod}, WalkStarts.{AreStops, IsArrivalAt, length_bounded, reduced_bounded}}
+use Rattle.cl_phase.proofs.{DelayWalks.delay_bounded, PhaseAnswers.LeadsTo, EachPhase.{IsGreatestOver, AreOverAll, each_phase}}
 
 -- the steps of a kept phase lead to its arrivals
 pub kept_leads : (phase : Phase) → IsPhase phase → LeadsTo (IsArrivalOf phase) (Kept phase)

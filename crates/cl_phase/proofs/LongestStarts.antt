@@ -1,19 +1,11 @@
 -- The walks from the first start from which they last as long as the longest do so, and it is an arrival. Times are in ticks.
-use Rattle.std.proofs.Common.{◌≡◌, ℕ, ◌<◌, ◌≤◌, Bool, true, false, cond, max, pos, negsuc, ℤ, All, List, [], ◌∷◌, refl, sym, ap, ◌∙◌, subst, arith}
+use Rattle.std.proofs.Common.{◌≡◌, ℕ, ◌<◌, ◌≤◌, true, false, cond, max, pos, negsuc, ℤ, All, List, [], ◌∷◌, refl, sym, ap, ◌∙◌, arith}
 use Rattle.std.specs.Prelude.{◌==◌, find, fold, Some, unwrap_or}
 use Rattle.std.proofs.lemmas.Bool.{eqb-true, eq-eqb, false≢true}
 use Rattle.std.proofs.lemmas.List.Elements.{All-head, All-tail, All-cons, All-nil}
-use Rattle.cl_model.specs.Holds.{greatest_by}
-use Rattle.cl_model.specs.declared.chain.RequirementKind.{RequirementKind}
-use Rattle.cl_phase.specs.declared.pace.Pace.{Pace}
-use Rattle.cl_phase.specs.declared.pace.Pace.TheVariants.{Kept, Free}
-use Rattle.cl_phase.specs.declared.stop.Stop.{Stop}
-use Rattle.cl_phase.specs.Pace.{IsPace}
-use Rattle.cl_phase.specs.Walks.{pace_at}
-use Rattle.cl_phase.specs.TightBounds.{hyperperiod_in, starts, ticks_or_none}
-use Rattle.cl_phase.specs.Walked.{lasts_from, start_among, walk_start}
-use Rattle.cl_phase.proofs.StartFacts.{IsStart, all_start}
-use Rattle.cl_phase.proofs.WalkStarts.{IsArrivalAt}
+use Rattle.cl_model.specs.{Holds.greatest_by, declared.chain.RequirementKind.RequirementKind}
+use Rattle.cl_phase.specs.{declared.{pace.Pace.{Pace, TheVariants.{Kept, Free}}, stop.Stop.Stop}, Pace.IsPace, Walks.pace_at, TightBounds.{hyperperiod_in, starts, ticks_or_none}, Walked.{lasts_from, start_among, walk_start}}
+use Rattle.cl_phase.proofs.{StartFacts.all_start, WalkStarts.IsArrivalAt}
 
 -- ---- the greatest is found
 

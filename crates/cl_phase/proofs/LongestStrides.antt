@@ -2,20 +2,9 @@
 use Rattle.std.proofs.Common.{◌≡◌, ℕ, zero, suc, ◌+◌, ◌-◌, ◌*◌, ◌≤◌, ◌⊎◌, inl, inr, max, ℤ, pos, ◌+ℤ◌, ◌-ℤ◌, List, length, refl, ap, sym, ◌∙◌, subst, arith}
 use Rattle.std.proofs.lemmas.Bool.{cases_lt}
 use Rattle.std.proofs.lemmas.Int.{ints}
-use Rattle.cl_phase.specs.declared.stop.Stop.{Stop}
-use Rattle.cl_phase.specs.declared.walk.Ends.{Ends}
-use Rattle.cl_phase.specs.declared.walk.Longest.{Longest}
-use Rattle.cl_phase.specs.Pace.{previous, next}
-use Rattle.cl_phase.specs.Walks.{pace_at, last_place, arrival_at_last, arrival_at_first}
-use Rattle.cl_phase.specs.TightBounds.{ticks_or_none}
-use Rattle.cl_phase.specs.Inner.Longest.{span_between, lengths_at, longer_of}
-use Rattle.cl_phase.specs.Inner.Even.{LeadsEvenly}
+use Rattle.cl_phase.specs.{declared.{stop.Stop.Stop, walk.{Ends.Ends, Longest.Longest}}, Pace.{previous, next}, Walks.{pace_at, last_place, arrival_at_last, arrival_at_first}, TightBounds.ticks_or_none, Inner.{Longest.{span_between, lengths_at, longer_of}, Even.LeadsEvenly}}
 use Rattle.cl_phase.specs.Inner.Scanned.{AreNoLonger, AreLongestFrom, IsInStrides}
-use Rattle.cl_phase.proofs.EvenHops.{times_more, comes_round_again}
-use Rattle.cl_phase.proofs.Stepped.{IsStepped}
-use Rattle.cl_phase.proofs.DelaySteps.{next_moves}
-use Rattle.cl_phase.proofs.WalksMove.{previous_moves}
-use Rattle.cl_phase.proofs.WiderWalks.{ticks_rise}
+use Rattle.cl_phase.proofs.{EvenHops.{times_more, comes_round_again}, Stepped.IsStepped, DelaySteps.next_moves, WalksMove.previous_moves, WiderWalks.ticks_rise}
 
 -- ---- what changes evenly is greatest at an end
 
@@ -134,13 +123,6 @@ within_all one other most h k = record {
 module _ (stops : List Stop) (ends : Ends) (place : ℕ) where
   abbrev at : ℕ → Longest
   at start = lengths_at stops ends place (pos start)
-
-  -- no walk
-  pub none_longest : AreLongestFrom stops ends place (λ start. ⊥) (record { length = 0; reduced = 0; delay = 0 })
-  none_longest = record {
-    no_longer = λ start none. absurd none;
-    least = λ most within. record { length = omega arith; reduced = omega arith; delay = omega arith };
-  }
 
   -- those of two kinds of starts
   pub either_longest : (Some Others All : ℕ → Type 0) (one other : Longest) → AreLongestFrom stops ends place Some one → AreLongestFrom stops ends place Others other

@@ -1,17 +1,9 @@
 -- The lengths of walks from an arrival of a group, and where the next ones start. Times are in ticks.
 use Rattle.std.proofs.Common.{◌≡◌, ℕ, ◌+◌, ◌-◌, ◌<◌, ◌≤◌, ℤ, pos, negsuc, min, ◌+ℤ◌, ◌-ℤ◌, ◌≤ℤ◌, List, length, refl, ap, ◌∙◌, subst, arith}
 use Rattle.std.proofs.lemmas.Int.{ints}
-use Rattle.cl_stim.specs.declared.phase.Phase.{Phase}
-use Rattle.cl_stim.specs.Phase.{IsPhase, IsPhaseInRange, first_arrival}
-use Rattle.cl_phase.specs.declared.stop.Stop.{Stop}
-use Rattle.cl_phase.specs.declared.walk.Ends.{Ends}
-use Rattle.cl_phase.specs.declared.walk.Longest.{Longest}
-use Rattle.cl_phase.specs.Pace.{previous, next}
-use Rattle.cl_phase.specs.Walks.{pace_at, last_place, arrival_at_first, arrival_at_last}
-use Rattle.cl_phase.specs.declared.pace.Pace.TheVariants.{Kept}
-use Rattle.cl_phase.specs.Inner.Ranges.{IsPaceInRange, AreStopsInRange}
+use Rattle.cl_stim.specs.{declared.phase.Phase.Phase, Phase.{IsPhase, IsPhaseInRange, first_arrival}}
+use Rattle.cl_phase.specs.{declared.{stop.Stop.Stop, walk.{Ends.Ends, Longest.Longest}, pace.Pace.TheVariants.Kept}, Pace.{previous, next}, Walks.{pace_at, last_place, arrival_at_first, arrival_at_last}, Inner.{Ranges.{IsPaceInRange, AreStopsInRange}, Longest.{span_between, lengths_at}}}
 use Rattle.cl_phase.specs.TightBounds.{ticks_or_none, starts}
-use Rattle.cl_phase.specs.Inner.Longest.{span_between, lengths_at}
 use Rattle.cl_phase.proofs.ScannedStarts.{none_before_first, starts_over}
 
 pub same_longest : (length reduced delay length' reduced' delay' : ℕ) → length ≡ length' → reduced ≡ reduced' → delay ≡ delay'

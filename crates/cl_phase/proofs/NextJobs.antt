@@ -2,20 +2,11 @@
 use Rattle.std.proofs.Common.{◌≡◌, ℕ, zero, suc, ◌+◌, ◌-◌, ◌<◌, ◌≤◌, inl, inr, List, [], ◌∷◌, length, subst, arith}
 use Rattle.std.specs.Prelude.{slice_index}
 use Rattle.std.proofs.lemmas.Bool.{cases_lt}
-use Rattle.cl_model.specs.declared.group.Group.{Group}
-use Rattle.cl_model.specs.Groups.{group_at}
-use Rattle.cl_model.specs.Timing.{greatest_distance}
-use Rattle.cl_runs.specs.TaskTiming.{System, timing_at, IsSound}
-use Rattle.cl_runs.specs.Run.{Run, jobs_of}
-use Rattle.cl_runs.specs.Legal.{IsLegal}
-use Rattle.cl_runs.specs.Moments.{Writes}
-use Rattle.cl_runs.specs.GoesOn.{GoesOn}
-use Rattle.cl_runs.specs.Chains.{Moments, HasWritten, AreBackwardLinks, last_group}
-use Rattle.cl_runs.specs.RunChains.{run_moments}
+use Rattle.cl_model.specs.{declared.group.Group.Group, Groups.group_at, Timing.greatest_distance}
+use Rattle.cl_runs.specs.{TaskTiming.{System, timing_at, IsSound}, Run.{Run, jobs_of}, Legal.IsLegal, Moments.Writes, GoesOn.GoesOn, Chains.{Moments, HasWritten, AreBackwardLinks, last_group}, RunChains.run_moments}
 use Rattle.cl_runs.proofs.Extension.{extension}
 use Rattle.cl_bound.specs.declared.group_timing.GroupTiming.{GroupTiming}
-use Rattle.cl_bound.proofs.LaterRuns.{next_in_table, next_writes}
-use Rattle.cl_bound.proofs.ChainBounds.{AreAlwaysKept}
+use Rattle.cl_bound.proofs.{LaterRuns.{next_in_table, next_writes}, ChainBounds.AreAlwaysKept}
 
 -- how long after a job has arrived the next one of its group has written
 abbrev room_of : System → (timing : Group → GroupTiming) → Group → ℕ

@@ -2,25 +2,13 @@
 use Rattle.std.proofs.Common.{◌≡◌, ℕ, ℤ, pos, negsuc, suc, ◌<◌, ◌≤◌, List, [], ◌∷◌, length, get_or, map, sym, ap, ◌∙◌, arith}
 use Rattle.std.specs.Prelude.{◌+ℤ◌, ◌≤ℤ◌}
 use Rattle.std.proofs.lemmas.Int.{ints}
-use Rattle.cl_model.specs.declared.group.Group.{Group}
-use Rattle.cl_model.specs.Groups.{group_at}
-use Rattle.cl_model.specs.Holds.{greatest_by}
+use Rattle.cl_model.specs.{declared.group.Group.Group, Groups.group_at, Holds.greatest_by}
 use Rattle.cl_runs.specs.TaskTiming.{System}
 use Rattle.cl_model.proofs.Greatest.{greatest_within}
-use Rattle.cl_bound.specs.declared.group_timing.GroupTiming.{GroupTiming}
-use Rattle.cl_bound.specs.Hops.{forward_hop, backward_hop, hops}
-use Rattle.cl_bound.specs.Bounds.{Lengths, AreBoundsOf, greatest_reaction, greatest_reduced, greatest_delay}
-use Rattle.cl_bound.specs.NoGreater.{AreNoGreater}
+use Rattle.cl_bound.specs.{declared.group_timing.GroupTiming.GroupTiming, Hops.{forward_hop, backward_hop, hops}, Bounds.{Lengths, AreBoundsOf, greatest_reaction, greatest_reduced, greatest_delay}, NoGreater.AreNoGreater}
 use Rattle.cl_bound.proofs.ReactionIsAge.{reaction_is_age}
-use Rattle.cl_phase.specs.declared.stop.Stop.{Stop}
-use Rattle.cl_phase.specs.Pace.{greatest_step}
-use Rattle.cl_phase.specs.Walks.{pace_at, last_place}
-use Rattle.cl_phase.specs.TightBounds.{hyperperiod_in, starts, ticks_or_none, span_of, last_write, length_from, reduced_from, delay_from, bounds_from}
-use Rattle.cl_phase.proofs.Stepped.{IsStepped}
-use Rattle.cl_phase.proofs.WalkStarts.{AreStops}
-use Rattle.cl_phase.proofs.RunWalks.{AreStopsOf}
-use Rattle.cl_phase.proofs.DelaySums.{delay_near}
-use Rattle.cl_phase.proofs.WalkSums.{ahead, behind, length_near, reduced_near}
+use Rattle.cl_phase.specs.{declared.stop.Stop.Stop, Pace.greatest_step, Walks.{pace_at, last_place}, TightBounds.{hyperperiod_in, starts, ticks_or_none, span_of, last_write, length_from, reduced_from, delay_from, bounds_from}}
+use Rattle.cl_phase.proofs.{Stepped.IsStepped, WalkStarts.AreStops, RunWalks.AreStopsOf, DelaySums.delay_near, WalkSums.{ahead, behind, length_near, reduced_near}}
 
 -- where each number is a hop more than the one before it, the last is the sum of the hops more than the first
 sum_of_hops : (hop : GroupTiming → GroupTiming → ℤ) (timing : Group → GroupTiming) (first : Group) (groups : List Group) (at : ℕ → ℤ)

@@ -1,12 +1,9 @@
 -- The steps of every pace are what walks need of them.
 use Rattle.std.proofs.Common.{◌≡◌, ℕ, ℤ, pos, ◌+ℤ◌, ◌-ℤ◌, ◌≤ℤ◌, ◌<ℤ◌, refl, sym, subst, arith}
 use Rattle.std.proofs.lemmas.Int.{ints, by_lt_z}
-use Rattle.cl_stim.specs.declared.phase.Phase.{Phase}
-use Rattle.cl_stim.specs.Phase.{IsPhase, IsArrivalOf, first_arrival, last_arrival}
+use Rattle.cl_stim.specs.{declared.phase.Phase.Phase, Phase.{IsPhase, IsArrivalOf, first_arrival, last_arrival}}
 use Rattle.cl_stim.proofs.PhaseSteps.{first_arrives, first_after, first_before, first_within, first_moved, last_arrives, last_before, last_after, last_within, last_moved}
-use Rattle.cl_phase.specs.declared.pace.Pace.{Pace}
-use Rattle.cl_phase.specs.declared.pace.Pace.TheVariants.{Kept, Free}
-use Rattle.cl_phase.specs.Pace.{IsPace, first_from, last_by}
+use Rattle.cl_phase.specs.{declared.pace.Pace.{Pace, TheVariants.{Kept, Free}}, Pace.{IsPace, first_from, last_by}}
 use Rattle.cl_phase.proofs.Stepped.{IsStepped}
 
 through : (a b c : ℤ) → a ≤ℤ b → b ≤ℤ c → a ≤ℤ c

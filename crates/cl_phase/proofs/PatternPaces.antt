@@ -1,14 +1,11 @@
 -- The pace of a pattern: its phase, where it has one, or its greatest distance.
 use Rattle.std.proofs.Common.{◌≡◌, Some, arith}
-use Rattle.cl_model.specs.declared.stimulus.StimulusKind.{StimulusKind}
-use Rattle.cl_model.specs.Timing.{greatest_distance}
+use Rattle.cl_model.specs.{declared.stimulus.StimulusKind.StimulusKind, Timing.greatest_distance}
 use Rattle.cl_runs.specs.Pattern.{IsPattern}
 use Rattle.cl_runs.proofs.PatternFacts.{distance_positive, distances_ordered}
 use Rattle.cl_stim.specs.Phase.{phase_of}
 use Rattle.cl_stim.proofs.PatternPhases.{phase_is, phase_distance}
-use Rattle.cl_phase.specs.declared.pace.Pace.{Pace}
-use Rattle.cl_phase.specs.declared.pace.Pace.TheVariants.{Kept, Free}
-use Rattle.cl_phase.specs.Pace.{IsPace, greatest_step}
+use Rattle.cl_phase.specs.{declared.pace.Pace.{Pace, TheVariants.{Kept, Free}}, Pace.{IsPace, greatest_step}}
 
 -- a pace that is known of a pattern
 abbrev pub IsPaceOf : StimulusKind → Pace → Type 0

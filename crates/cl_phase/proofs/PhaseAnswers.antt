@@ -4,13 +4,8 @@ use Rattle.std.proofs.Common.{◌≡◌, ◌⊎◌, ℕ, suc, ◌+◌, ◌-◌, 
 use Rattle.std.specs.Prelude.{ℤ, pos, negsuc, ◌+ℤ◌, ◌-ℤ◌, ◌≤ℤ◌}
 use Rattle.std.proofs.lemmas.Bool.{cases_lt}
 use Rattle.std.proofs.lemmas.Int.{ints}
-use Rattle.cl_phase.specs.declared.pace.Pace.{Pace}
-use Rattle.cl_phase.specs.declared.stop.Stop.{Stop}
-use Rattle.cl_phase.specs.Pace.{first_from, last_by, previous}
-use Rattle.cl_phase.specs.Walks.{pace_at, lag_at, onward, back, last_place, arrival_at_last, arrival_at_first}
-use Rattle.cl_phase.specs.TightBounds.{length_from, reduced_from}
-use Rattle.cl_phase.proofs.Stepped.{IsStepped}
-use Rattle.cl_phase.proofs.WalksBothWays.{last_rises, onward_on, back_on, onward_rises, back_rises, walks_both_ways}
+use Rattle.cl_phase.specs.{declared.{pace.Pace.Pace, stop.Stop.Stop}, Pace.{first_from, last_by, previous}, Walks.{pace_at, lag_at, onward, back, last_place, arrival_at_last, arrival_at_first}, TightBounds.{length_from, reduced_from}}
+use Rattle.cl_phase.proofs.{Stepped.IsStepped, WalksBothWays.{last_rises, onward_on, back_on, onward_rises, back_rises, walks_both_ways}}
 
 -- the steps of a pace lead to arrivals that are fixed: from a moment to the first that isn't before it, and to the last
 -- that isn't after it

@@ -1,13 +1,8 @@
 -- The jobs of a legal run go at the pace of their task's pattern.
 use Rattle.std.proofs.Common.{ℕ, suc, ◌<◌, pos, ◌+ℤ◌, ◌≤ℤ◌, length, sym, subst}
-use Rattle.cl_runs.specs.TaskTiming.{System, timing_at, IsSound}
-use Rattle.cl_runs.specs.Table.{job_at}
-use Rattle.cl_runs.specs.Run.{Run, jobs_of}
-use Rattle.cl_runs.specs.Legal.{IsLegal}
+use Rattle.cl_runs.specs.{TaskTiming.{System, timing_at, IsSound}, Table.job_at, Run.{Run, jobs_of}, Legal.IsLegal}
 use Rattle.cl_stim.proofs.RunPhases.{run_in_phase, run_within}
-use Rattle.cl_phase.specs.declared.pace.Pace.{Pace}
-use Rattle.cl_phase.specs.declared.pace.Pace.TheVariants.{Kept, Free}
-use Rattle.cl_phase.specs.Pace.{AreNeighbours}
+use Rattle.cl_phase.specs.{declared.pace.Pace.{Pace, TheVariants.{Kept, Free}}, Pace.AreNeighbours}
 use Rattle.cl_phase.proofs.PatternPaces.{IsPaceOf}
 
 -- a job and the next are neighbours, at each pace that is known of the task

@@ -3,22 +3,12 @@
 use Rattle.std.proofs.Common.{◌≡◌, ℕ, ℤ, pos, suc, ◌-◌, ◌<◌, inl, inr, List, [], ◌∷◌, length, ap, ◌∙◌, arith}
 use Rattle.std.specs.Prelude.{◌+ℤ◌, ◌-ℤ◌, ◌≤ℤ◌, ◌⊎◌}
 use Rattle.std.proofs.lemmas.Int.{ints}
-use Rattle.cl_model.specs.declared.group.Group.{Group}
-use Rattle.cl_model.specs.Groups.{group_at}
-use Rattle.cl_runs.specs.TaskTiming.{System}
-use Rattle.cl_runs.specs.Table.{job_at}
-use Rattle.cl_runs.specs.Run.{Run, jobs_of}
-use Rattle.cl_runs.specs.Legal.{IsLegal}
-use Rattle.cl_runs.specs.Chains.{first_group, last_group}
-use Rattle.cl_bound.specs.Hops.{lag}
-use Rattle.cl_bound.specs.declared.group_timing.GroupTiming.{GroupTiming}
+use Rattle.cl_model.specs.{declared.group.Group.Group, Groups.group_at}
+use Rattle.cl_runs.specs.{TaskTiming.System, Table.job_at, Run.{Run, jobs_of}, Legal.IsLegal, Chains.{first_group, last_group}}
+use Rattle.cl_bound.specs.{Hops.lag, declared.group_timing.GroupTiming.GroupTiming}
 use Rattle.cl_bound.proofs.AlongChains.{last_timing}
-use Rattle.cl_phase.specs.declared.stop.Stop.{Stop}
-use Rattle.cl_phase.specs.Pace.{AreNeighbours}
-use Rattle.cl_phase.specs.Walks.{pace_at, lag_at, last_place}
-use Rattle.cl_phase.specs.TightBounds.{span_of, length_from, reduced_from, bounds_from}
-use Rattle.cl_phase.proofs.Walking.{KeepsPhase, AreLinkedJobs, length_covers, reduced_covers}
-use Rattle.cl_phase.proofs.WalkStarts.{AreStops, IsArrivalAt, after_arrives, length_bounded, age_bounded, reduced_bounded}
+use Rattle.cl_phase.specs.{declared.stop.Stop.Stop, Pace.AreNeighbours, Walks.{pace_at, lag_at, last_place}, TightBounds.{span_of, length_from, reduced_from, bounds_from}}
+use Rattle.cl_phase.proofs.{Walking.{KeepsPhase, AreLinkedJobs, length_covers, reduced_covers}, WalkStarts.{AreStops, IsArrivalAt, after_arrives, length_bounded, age_bounded, reduced_bounded}}
 
 -- when a job of the group of a place arrives
 abbrev pub arrival_in : Run → List Group → (place job : ℕ) → ℕ

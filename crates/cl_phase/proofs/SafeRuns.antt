@@ -2,27 +2,14 @@
 use Rattle.std.proofs.Common.{◌≡◌, ℕ, ℤ, pos, suc, ◌+◌, ◌-◌, ◌<◌, ◌≤◌, List, length, ap, ◌∙◌, subst, arith}
 use Rattle.std.specs.Prelude.{slice_index, ◌+ℤ◌, ◌-ℤ◌, ◌≤ℤ◌}
 use Rattle.std.proofs.lemmas.Int.{ints}
-use Rattle.cl_model.specs.declared.group.Group.{Group}
-use Rattle.cl_model.specs.Groups.{group_at}
-use Rattle.cl_runs.specs.TaskTiming.{System, IsSound}
-use Rattle.cl_runs.specs.Run.{Run, jobs_of}
-use Rattle.cl_runs.specs.Legal.{IsLegal}
-use Rattle.cl_runs.specs.Moments.{Reads, Writes}
-use Rattle.cl_runs.specs.Chains.{JobChain, chain_length, first_group, last_group, first_job, last_job, IsForwardChain, IsAgeChain, IsReducedChain, AreBackwardLinks}
-use Rattle.cl_runs.specs.Delays.{IsDelayChain}
+use Rattle.cl_model.specs.{declared.group.Group.Group, Groups.group_at}
+use Rattle.cl_runs.specs.{TaskTiming.{System, IsSound}, Run.{Run, jobs_of}, Legal.IsLegal, Moments.{Reads, Writes}, Chains.{JobChain, chain_length, first_group, last_group, first_job, last_job, IsForwardChain, IsAgeChain, IsReducedChain, AreBackwardLinks}, Delays.IsDelayChain}
 use Rattle.cl_runs.specs.RunChains.{run_moments}
 use Rattle.cl_runs.proofs.ChainsKept.{run_age_kept, run_reduced_kept}
-use Rattle.cl_bound.specs.declared.group_timing.GroupTiming.{GroupTiming}
-use Rattle.cl_bound.specs.Promises.{AreAtLeast}
-use Rattle.cl_bound.proofs.LaterRuns.{writes_in_time}
-use Rattle.cl_bound.proofs.LagBounds.{forward_lag, backward_lag}
-use Rattle.cl_bound.proofs.ChainBounds.{AreAlwaysKept}
-use Rattle.cl_phase.specs.declared.stop.Stop.{Stop}
-use Rattle.cl_phase.specs.Walks.{last_place}
-use Rattle.cl_phase.specs.TightBounds.{span_of, bounds_from}
-use Rattle.cl_phase.proofs.WalkStarts.{AreStops}
-use Rattle.cl_phase.proofs.NextJobs.{HasNextJobs, next_jobs}
-use Rattle.cl_phase.proofs.RunWalks.{arrival_in, AreStopsOf, AreMissedJobs, span_is, reaction_covers, age_covers, reduced_covers_jobs}
+use Rattle.cl_bound.specs.{declared.group_timing.GroupTiming.GroupTiming, Promises.AreAtLeast}
+use Rattle.cl_bound.proofs.{LaterRuns.writes_in_time, LagBounds.{forward_lag, backward_lag}, ChainBounds.AreAlwaysKept}
+use Rattle.cl_phase.specs.{declared.stop.Stop.Stop, Walks.last_place, TightBounds.{span_of, bounds_from}}
+use Rattle.cl_phase.proofs.{WalkStarts.AreStops, NextJobs.{HasNextJobs, next_jobs}, RunWalks.{arrival_in, AreStopsOf, AreMissedJobs, span_is, reaction_covers, age_covers, reduced_covers_jobs}}
 
 -- a length is at most a number that bounds its end from its beginning, by the arrivals of the jobs that write and read
 within_walks : (from to first last last_there write read most : ℕ) (span : ℤ) → span ≡ (pos write -ℤ pos read) → last ≡ last_there

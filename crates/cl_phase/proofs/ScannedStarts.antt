@@ -5,12 +5,9 @@ use Rattle.std.proofs.lemmas.Int.{ints}
 use Rattle.std.proofs.lemmas.List.{map-id}
 use Rattle.std.proofs.lemmas.List.FromFn.{map-range_with_len_more}
 use Rattle.std.proofs.lemmas.List.Elements.{filter-append}
-use Rattle.cl_stim.specs.declared.phase.Phase.{Phase}
-use Rattle.cl_stim.specs.Phase.{IsPhase, first_arrival, arrives_at}
-use Rattle.cl_stim.proofs.PhaseSteps.{first_before}
-use Rattle.cl_phase.specs.declared.pace.Pace.TheVariants.{Kept}
-use Rattle.cl_phase.specs.TightBounds.{starts}
-use Rattle.cl_stim.proofs.ArrivalTests.{arrives_from_test}
+use Rattle.cl_stim.specs.{declared.phase.Phase.Phase, Phase.{IsPhase, first_arrival, arrives_at}}
+use Rattle.cl_stim.proofs.{PhaseSteps.first_before, ArrivalTests.arrives_from_test}
+use Rattle.cl_phase.specs.{declared.pace.Pace.TheVariants.Kept, TightBounds.starts}
 
 module _ (phase : Phase) (is : IsPhase phase) where
   -- none arrives between a moment and the first arrival from it on

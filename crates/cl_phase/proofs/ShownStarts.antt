@@ -5,23 +5,11 @@ use Rattle.std.specs.Option.{option_or}
 use Rattle.std.proofs.lemmas.Bool.{eqb-true}
 use Rattle.std.proofs.lemmas.Int.{ints}
 use Rattle.std.proofs.lemmas.List.Folds.{find-append}
-use Rattle.cl_model.specs.declared.chain.LengthKind.TheVariants.{Reaction, Age, Reduced}
-use Rattle.cl_model.specs.declared.chain.RequirementKind.{RequirementKind}
-use Rattle.cl_model.specs.declared.chain.RequirementKind.TheVariants.{Length, Delay}
-use Rattle.cl_model.specs.declared.limits.TheConstants.{MOST_TICKS}
-use Rattle.cl_stim.specs.declared.phase.Phase.{Phase}
-use Rattle.cl_stim.specs.Phase.{IsPhase, IsArrivalOf, first_arrival, arrives_at}
-use Rattle.cl_stim.proofs.PhaseSteps.{first_arrives, first_after}
-use Rattle.cl_phase.specs.declared.stop.Stop.{Stop}
-use Rattle.cl_phase.specs.declared.pace.Pace.{Pace}
-use Rattle.cl_phase.specs.declared.pace.Pace.TheVariants.{Kept, Free}
-use Rattle.cl_phase.specs.declared.walk.Ends.{Ends}
-use Rattle.cl_phase.specs.TightBounds.{ticks_or_none, starts}
-use Rattle.cl_phase.specs.Walked.{lasts_from, start_among}
-use Rattle.cl_phase.specs.Inner.Longest.{span_between, lengths_at, length_of_kind}
-use Rattle.cl_stim.proofs.ArrivalTests.{test_from_arrival}
-use Rattle.cl_phase.proofs.ScannedStarts.{starts_at, starts_over}
-use Rattle.cl_phase.proofs.LongestWalks.{by_first, gap}
+use Rattle.cl_model.specs.declared.{chain.{LengthKind.TheVariants.{Reaction, Age, Reduced}, RequirementKind.{RequirementKind, TheVariants.{Length, Delay}}}, limits.TheConstants.MOST_TICKS}
+use Rattle.cl_stim.specs.{declared.phase.Phase.Phase, Phase.{IsPhase, IsArrivalOf, first_arrival, arrives_at}}
+use Rattle.cl_stim.proofs.{PhaseSteps.{first_arrives, first_after}, ArrivalTests.test_from_arrival}
+use Rattle.cl_phase.specs.{declared.{stop.Stop.Stop, pace.Pace.{Pace, TheVariants.{Kept, Free}}, walk.Ends.Ends}, TightBounds.{ticks_or_none, starts}, Walked.{lasts_from, start_among}, Inner.Longest.{span_between, lengths_at, length_of_kind}}
+use Rattle.cl_phase.proofs.{ScannedStarts.{starts_at, starts_over}, LongestWalks.{by_first, gap}}
 
 -- whether the walks from an arrival last so long
 abbrev pub lasts : RequirementKind → List Stop → (span : ℤ) → (write place bound : ℕ) → (arrival : ℕ) → Bool

@@ -1,16 +1,9 @@
 -- The walk that is shown, from its pieces.
 use Rattle.std.proofs.Common.{◌≡◌, ℕ, ℤ, pos, List, ap, ◌∙◌}
-use Rattle.cl_model.specs.declared.chain.LengthKind.TheVariants.{Reaction}
-use Rattle.cl_model.specs.declared.chain.RequirementKind.{RequirementKind}
-use Rattle.cl_model.specs.declared.chain.RequirementKind.TheVariants.{Length}
-use Rattle.cl_model.specs.declared.group.Group.{Group}
+use Rattle.cl_model.specs.declared.{chain.{LengthKind.TheVariants.Reaction, RequirementKind.{RequirementKind, TheVariants.Length}}, group.Group.Group}
 use Rattle.cl_runs.specs.TaskTiming.{System}
 use Rattle.cl_bound.specs.declared.group_timing.GroupTiming.{GroupTiming}
-use Rattle.cl_phase.specs.declared.stop.Stop.{Stop}
-use Rattle.cl_phase.specs.declared.walked.Walked.{Walked}
-use Rattle.cl_phase.specs.Walks.{pace_at}
-use Rattle.cl_phase.specs.TightBounds.{stops_of, span_of, last_write, slowest, hyperperiod_in, starts}
-use Rattle.cl_phase.specs.Walked.{start_among, walk_start, missed, taken, walked_of}
+use Rattle.cl_phase.specs.{declared.{stop.Stop.Stop, walked.Walked.Walked}, Walks.pace_at, TightBounds.{stops_of, span_of, last_write, slowest, hyperperiod_in, starts}, Walked.{start_among, walk_start, missed, taken, walked_of}}
 
 same_walk : (place place' : ℕ) (miss miss' take take' : List ℤ) → place ≡ place' → miss ≡ miss' → take ≡ take'
     → ◌≡◌ {A = Walked} (record { place = place; missed = miss; taken = take }) (record { place = place'; missed = miss'; taken = take' })

@@ -7,12 +7,7 @@ use Rattle.std.proofs.lemmas.List.Folds.{list_all-map}
 use Rattle.std.proofs.lemmas.List.Sums.{AllPass-from_list_all}
 use Rattle.cl_stim.specs.declared.phase.Phase.{Phase}
 use Rattle.cl_stim.proofs.Ranges.{IsFirstInRange, first_in_range, first_or_default}
-use Rattle.cl_phase.specs.declared.pace.Pace.{Pace}
-use Rattle.cl_phase.specs.declared.pace.Pace.TheVariants.{Kept, Free}
-use Rattle.cl_phase.specs.declared.stop.Stop.{Stop}
-use Rattle.cl_phase.specs.Pace.{IsPace, ComesRound}
-use Rattle.cl_phase.specs.Walks.{no_stop, pace_at}
-use Rattle.cl_phase.specs.TightBounds.{hyperperiod_in, is_slowest, has_no_fewer, slowest}
+use Rattle.cl_phase.specs.{declared.{pace.Pace.{Pace, TheVariants.{Kept, Free}}, stop.Stop.Stop}, Pace.{IsPace, ComesRound}, Walks.{no_stop, pace_at}, TightBounds.{hyperperiod_in, is_slowest, has_no_fewer, slowest}}
 use Rattle.cl_phase.proofs.KeptFacts.{nth_pace, hyperperiod_rounds, hyperperiod_some, HasFewest, fewest_or_none, kept_or_free}
 
 -- each place has a pace that goes on

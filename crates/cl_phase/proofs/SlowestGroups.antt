@@ -2,17 +2,9 @@
 use Rattle.std.proofs.Common.{◌≡◌, ℕ, zero, suc, ◌+◌, ◌-◌, ◌^◌, ◌<◌, ◌≤◌, Bool, true, false, cond, nat_le, ◌&&◌, List, [], ◌∷◌, map, min, length, Option, Some, None, find, unwrap_or, refl, ap, sym, ◌∙◌, arith}
 use Rattle.std.specs.List.{list_all, range_with_len}
 use Rattle.std.proofs.lemmas.Bool.Decides.{nat_tests}
-use Rattle.cl_stim.specs.declared.phase.Phase.{Phase}
-use Rattle.cl_stim.specs.Phase.{arrivals_in}
-use Rattle.cl_phase.specs.declared.pace.Pace.{Pace}
-use Rattle.cl_phase.specs.declared.pace.Pace.TheVariants.{Kept, Free}
-use Rattle.cl_phase.specs.declared.stop.Stop.{Stop}
-use Rattle.cl_phase.specs.declared.keeping.Keeping.{Keeping}
-use Rattle.cl_phase.specs.Kept.{phases_in}
-use Rattle.cl_phase.specs.Walks.{pace_at}
-use Rattle.cl_phase.specs.TightBounds.{has_no_fewer, is_slowest, slowest, hyperperiod_in}
-use Rattle.cl_phase.specs.Inner.Ranges.{LONGEST_HYPERPERIOD, IsPaceInRange}
-use Rattle.cl_phase.specs.Inner.Keeping.{fewest_in, AreKeptIn, arrives_seldom}
+use Rattle.cl_stim.specs.{declared.phase.Phase.Phase, Phase.arrivals_in}
+use Rattle.cl_phase.specs.{declared.{pace.Pace.{Pace, TheVariants.{Kept, Free}}, stop.Stop.Stop, keeping.Keeping.Keeping}, Kept.phases_in, Walks.pace_at, TightBounds.{has_no_fewer, is_slowest, slowest, hyperperiod_in}, Inner.{Ranges.{LONGEST_HYPERPERIOD, IsPaceInRange}, Keeping.fewest_in}}
+use Rattle.cl_phase.specs.Inner.Keeping.{AreKeptIn, arrives_seldom}
 use Rattle.cl_phase.proofs.FewestArrivals.{arrivals_few}
 
 -- a phase has no more arrivals than 64 bits hold

@@ -1,17 +1,11 @@
 -- Tight bounds of groups whose timings always hold are 1 tick or more: they are at least the lengths of complete chains.
 use Rattle.std.proofs.Common.{◌<◌, List, length, arith}
 use Rattle.std.specs.Prelude.{All}
-use Rattle.cl_model.specs.declared.chain.LengthKind.TheVariants.{Reaction, Age, Reduced}
-use Rattle.cl_model.specs.declared.group.Group.{Group}
+use Rattle.cl_model.specs.declared.{chain.LengthKind.TheVariants.{Reaction, Age, Reduced}, group.Group.Group}
 use Rattle.cl_runs.specs.TaskTiming.{System, IsSound}
-use Rattle.cl_bound.specs.Promises.{AreAtLeast}
-use Rattle.cl_bound.specs.Timings.{AlwaysKeeps}
-use Rattle.cl_bound.specs.declared.group_timing.GroupTiming.{GroupTiming}
-use Rattle.cl_phase.specs.CompleteChains.{HasCompleteChains, AreSomeTicks}
-use Rattle.cl_phase.specs.TightBounds.{tight_bounds}
-use Rattle.cl_phase.proofs.ChainsComplete.{has_complete_chains}
-use Rattle.cl_phase.proofs.DelayExists.{delay_takes_time}
-use Rattle.cl_phase.proofs.TightSafety.{kept_safe}
+use Rattle.cl_bound.specs.{Promises.AreAtLeast, Timings.AlwaysKeeps, declared.group_timing.GroupTiming.GroupTiming}
+use Rattle.cl_phase.specs.{CompleteChains.{HasCompleteChains, AreSomeTicks}, TightBounds.tight_bounds}
+use Rattle.cl_phase.proofs.{ChainsComplete.has_complete_chains, DelayExists.delay_takes_time, TightSafety.kept_safe}
 
 module _ (system : System) (sound : IsSound system) (timing : Group → GroupTiming) (groups : List Group) (some : 0 < length groups)
     (keep : All (λ (group : Group). AlwaysKeeps system group (timing group)) groups) where

@@ -7,11 +7,9 @@ use Rattle.std.proofs.lemmas.List.FromFn.{length-range_with_len, get_or-range_wi
 use Rattle.std.proofs.lemmas.List.Elements.{All-head, All-tail, All-cons, All-nil, All-from_get_or, All-weaker}
 use Rattle.cl_model.specs.Holds.{greatest_by}
 use Rattle.cl_model.proofs.Greatest.{greatest_filtered, greatest_within}
-use Rattle.cl_stim.specs.declared.phase.Phase.{Phase}
-use Rattle.cl_stim.specs.Phase.{IsPhase, IsArrivalOf, arrives_at}
+use Rattle.cl_stim.specs.{declared.phase.Phase.Phase, Phase.{IsPhase, IsArrivalOf, arrives_at}}
 use Rattle.cl_stim.proofs.ArrivalTests.{arrives_from_test, test_from_arrival}
-use Rattle.cl_phase.specs.declared.pace.Pace.TheVariants.{Kept, Free}
-use Rattle.cl_phase.specs.TightBounds.{starts}
+use Rattle.cl_phase.specs.{declared.pace.Pace.TheVariants.Kept, TightBounds.starts}
 
 -- an element of which something holds has a number
 pub record IsReached {X : Type 0} (P : X → Type 0) (f : X → ℕ) (value : ℕ) : Type 0 where
@@ -83,7 +81,3 @@ module _ (phase : Phase) (is : IsPhase phase) (ticks : ℕ) where
     pub starts_within : (most : ℕ) → ((start : ℕ) → IsStart phase ticks start → f start ≤ most) → greatest_by f (starts (Kept phase) ticks) ≤ most
     starts_within most within = greatest_within f (starts (Kept phase) ticks) most
         (All-weaker (IsStart phase ticks) (λ start. f start ≤ most) within (starts (Kept phase) ticks) all_start)
-
--- without a phase walks start at 0
-pub free_start : (greatest ticks : ℕ) (f : ℕ → ℕ) → greatest_by f (starts (Free greatest) ticks) ≡ f 0
-free_start greatest ticks f = omega arith

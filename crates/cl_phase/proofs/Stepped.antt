@@ -1,8 +1,7 @@
 -- What walks need of a pace: its two steps answer each other, go no further than its greatest distance, are the same
 -- again after it has come round, and bound a job's arrival by that of its neighbour.
 use Rattle.std.specs.Prelude.{◌≡◌, ℕ, ℤ, pos, ◌+ℤ◌, ◌-ℤ◌, ◌≤ℤ◌}
-use Rattle.cl_phase.specs.declared.pace.Pace.{Pace}
-use Rattle.cl_phase.specs.Pace.{first_from, last_by, previous, AreNeighbours, ComesRound, greatest_step}
+use Rattle.cl_phase.specs.{declared.pace.Pace.Pace, Pace.{first_from, last_by, previous, AreNeighbours, ComesRound, greatest_step}}
 
 pub record IsStepped (pace : Pace) : Type 0 where
   pub onward_back : (from to : ℤ) → first_from pace from ≤ℤ to → from ≤ℤ last_by pace to

@@ -1,25 +1,12 @@
 -- The groups of a chain on its walks, by their places: their paces, their lags, and where walks start.
 use Rattle.std.proofs.Common.{◌≡◌, ℕ, zero, suc, ◌<◌, ◌≤◌, Option, Some, None, List, [], ◌∷◌, All, length, refl, ap, arith}
 use Rattle.std.proofs.lemmas.Bool.{cond_both}
-use Rattle.cl_model.specs.declared.group.Group.{Group}
-use Rattle.cl_model.specs.declared.stimulus.StimulusKind.{StimulusKind}
-use Rattle.cl_model.specs.Groups.{group_at}
-use Rattle.cl_model.specs.Timing.{greatest_distance}
+use Rattle.cl_model.specs.{declared.{group.Group.Group, stimulus.StimulusKind.StimulusKind}, Groups.group_at, Timing.greatest_distance}
 use Rattle.cl_runs.specs.TaskTiming.{System, timing_at, IsSound}
-use Rattle.cl_stim.specs.declared.phase.Phase.{Phase}
-use Rattle.cl_stim.specs.Phase.{phase_of}
-use Rattle.cl_bound.specs.Hops.{lag}
-use Rattle.cl_bound.specs.declared.group_timing.GroupTiming.{GroupTiming}
-use Rattle.cl_bound.specs.SettledChains.{IsGroupOfTask}
-use Rattle.cl_phase.specs.declared.stop.Stop.{Stop}
-use Rattle.cl_phase.specs.Pace.{IsPace, ComesRound, greatest_step}
-use Rattle.cl_phase.specs.Kept.{phase_beside, kept_with, pace_with, come_round_soon}
-use Rattle.cl_phase.specs.Walks.{pace_at, lag_at}
-use Rattle.cl_phase.specs.TightBounds.{stops_beside, hyperperiod_in, slowest}
-use Rattle.cl_phase.proofs.PatternPaces.{IsPaceOf, pace_is, pace_step}
-use Rattle.cl_phase.proofs.Stepped.{IsStepped}
-use Rattle.cl_phase.proofs.PaceSteps.{paces_step}
-use Rattle.cl_phase.proofs.SlowestFacts.{ArePaced, hyperperiod_comes_round, hyperperiod_is_some, slowest_within}
+use Rattle.cl_stim.specs.{declared.phase.Phase.Phase, Phase.phase_of}
+use Rattle.cl_bound.specs.{Hops.lag, declared.group_timing.GroupTiming.GroupTiming, SettledChains.IsGroupOfTask}
+use Rattle.cl_phase.specs.{declared.stop.Stop.Stop, Pace.{IsPace, ComesRound, greatest_step}, Kept.{phase_beside, kept_with, pace_with, come_round_soon}, Walks.{pace_at, lag_at}, TightBounds.{stops_beside, hyperperiod_in, slowest}}
+use Rattle.cl_phase.proofs.{PatternPaces.{IsPaceOf, pace_is, pace_step}, Stepped.IsStepped, PaceSteps.paces_step, SlowestFacts.{ArePaced, hyperperiod_comes_round, hyperperiod_is_some, slowest_within}}
 
 -- the pace that a pattern is given is one that is known of it
 pub given_pace : (pattern : StimulusKind) (kept : List Phase) → IsPaceOf pattern (pace_with (greatest_distance pattern) (phase_beside kept (phase_of pattern)))

@@ -1,25 +1,12 @@
 -- The stops of groups of a sound system are such as bounds by walks need.
 use Rattle.std.proofs.Common.{◌≡◌, ℕ, ◌<◌, ◌⊎◌, inl, inr, List, [], length, sym, ◌∙◌, subst, arith}
 use Rattle.std.specs.Prelude.{All}
-use Rattle.cl_model.specs.Groups.{no_group, group_at}
-use Rattle.cl_model.specs.declared.group.Group.{Group}
+use Rattle.cl_model.specs.{Groups.{no_group, group_at}, declared.group.Group.Group}
 use Rattle.cl_runs.specs.TaskTiming.{System, IsSound}
-use Rattle.cl_bound.specs.declared.group_timing.GroupTiming.{GroupTiming}
-use Rattle.cl_bound.specs.Timings.{IsTimingOf}
-use Rattle.cl_bound.specs.SettledChains.{IsGroupOfTask}
-use Rattle.cl_phase.specs.declared.stop.Stop.{Stop}
-use Rattle.cl_phase.specs.Walks.{pace_at}
-use Rattle.cl_phase.specs.TightBounds.{stops_of, hyperperiod_in, slowest}
-use Rattle.cl_phase.proofs.PaceSteps.{paces_step}
-use Rattle.cl_phase.proofs.RunPaces.{run_neighbours}
-use Rattle.cl_phase.proofs.SlowestFacts.{ArePaced, hyperperiod_comes_round, hyperperiod_is_some, slowest_within, slowest_keeps}
-use Rattle.cl_phase.specs.Pace.{IsPace}
-use Rattle.cl_phase.proofs.StartFacts.{start_within}
-use Rattle.cl_phase.proofs.StopFacts.{length_stops, stop_pace, stop_lag, stop_is_pace, stop_step}
-use Rattle.cl_phase.proofs.Walking.{KeepsPhase, IsFreeAt}
-use Rattle.cl_phase.proofs.WalkStarts.{AreStops}
-use Rattle.cl_phase.proofs.RunWalks.{AreStopsOf}
-use Rattle.cl_phase.proofs.NoGreaterSums.{AreStepsOf}
+use Rattle.cl_bound.specs.{declared.group_timing.GroupTiming.GroupTiming, Timings.IsTimingOf, SettledChains.IsGroupOfTask}
+use Rattle.cl_phase.specs.{declared.stop.Stop.Stop, Walks.pace_at, TightBounds.{stops_of, hyperperiod_in, slowest}, Pace.IsPace}
+use Rattle.cl_phase.proofs.{PaceSteps.paces_step, RunPaces.run_neighbours, SlowestFacts.{ArePaced, hyperperiod_comes_round, hyperperiod_is_some, slowest_within, slowest_keeps}, StartFacts.start_within, StopFacts.{length_stops, stop_pace, stop_lag, stop_is_pace, stop_step}}
+use Rattle.cl_phase.proofs.{Walking.{KeepsPhase, IsFreeAt}, WalkStarts.AreStops, RunWalks.AreStopsOf, NoGreaterSums.AreStepsOf}
 
 -- all that they need
 pub record HaveStops (system : System) (timing : Group → GroupTiming) (groups : List Group) : Type 0 where

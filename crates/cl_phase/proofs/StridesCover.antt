@@ -6,20 +6,11 @@ use Rattle.std.proofs.lemmas.Bool.{cases_lt}
 use Rattle.std.proofs.lemmas.Int.{ints}
 use Rattle.std.proofs.lemmas.Nat.{div-add-mod', mod_below}
 use Rattle.cl_model.specs.declared.limits.TheConstants.{MOST_TICKS}
-use Rattle.cl_stim.specs.declared.phase.Phase.{Phase}
-use Rattle.cl_stim.specs.Phase.{IsPhase, IsArrivalOf, first_arrival}
+use Rattle.cl_stim.specs.{declared.phase.Phase.Phase, Phase.{IsPhase, IsArrivalOf, first_arrival}}
 use Rattle.cl_stim.proofs.PhaseSteps.{first_arrives, first_after, first_before}
-use Rattle.cl_phase.specs.declared.pace.Pace.TheVariants.{Kept}
-use Rattle.cl_phase.specs.declared.stop.Stop.{Stop}
-use Rattle.cl_phase.specs.declared.walk.Ends.{Ends}
-use Rattle.cl_phase.specs.declared.walk.Longest.{Longest}
-use Rattle.cl_phase.specs.TightBounds.{ticks_or_none, length_from, reduced_from, delay_from, starts}
-use Rattle.cl_phase.specs.Inner.Longest.{span_between, longer_of, longest_walk}
-use Rattle.cl_phase.specs.Inner.Scanned.{AreNoLonger, AreLongestFrom, IsInStrides}
-use Rattle.cl_phase.proofs.ArrivalsMove.{arrives_later, arrives_earlier}
-use Rattle.cl_phase.proofs.LongestStrides.{either_longest}
-use Rattle.cl_phase.proofs.LongestWalks.{same_longest}
-use Rattle.cl_phase.proofs.StartFacts.{IsStart, start_within, starts_within}
+use Rattle.cl_phase.specs.{declared.{pace.Pace.TheVariants.Kept, stop.Stop.Stop, walk.{Ends.Ends, Longest.Longest}}, TightBounds.{ticks_or_none, length_from, reduced_from, delay_from, starts}, Inner.{Longest.{span_between, longer_of, longest_walk}, Scanned.{AreNoLonger, AreLongestFrom}}}
+use Rattle.cl_phase.specs.Inner.Scanned.{IsInStrides}
+use Rattle.cl_phase.proofs.{ArrivalsMove.{arrives_later, arrives_earlier}, LongestStrides.either_longest, LongestWalks.same_longest, StartFacts.{IsStart, start_within, starts_within}}
 
 -- ---- of all starts
 
@@ -101,9 +92,6 @@ module _ (stops : List Stop) (ends : Ends) (place : ℕ) (phase : Phase) (is : I
         let rest : (ticks - 1 - arrival) % stride < stride = mod_below (ticks - 1 - arrival) stride some in
         let all : strides * stride ≡ (ticks - 1 - arrival) / stride * stride = ap (λ n. n * stride) strides_are in
         (omega (arith, parts, rest, all, within), omega (arith, parts, rest, all, within))
-
-    pub strides_near : arrival + strides * stride ≤ ticks
-    strides_near = omega (arith, strides_fit)
 
     few_strides : (times : ℕ) → arrival + times * stride < ticks → times ≤ strides
     few_strides times below = elim (cases_lt strides times) [

@@ -1,21 +1,12 @@
 -- Tight bounds are safe, and no greater than the sums of hops over the same timings.
 use Rattle.std.proofs.Common.{◌<◌, List, [], ◌∷◌, length, map, arith}
 use Rattle.std.specs.Prelude.{All}
-use Rattle.cl_model.specs.declared.group.Group.{Group}
+use Rattle.cl_model.specs.{declared.group.Group.Group, Groups.no_group}
 use Rattle.cl_runs.specs.TaskTiming.{System, IsSound}
-use Rattle.cl_model.specs.Groups.{no_group}
-use Rattle.cl_bound.specs.Bounds.{Lengths, AreBoundsOf}
-use Rattle.cl_bound.specs.declared.group_timing.GroupTiming.{GroupTiming}
-use Rattle.cl_bound.specs.Timings.{IsTimingOf, AlwaysKeeps}
-use Rattle.cl_bound.specs.NoGreater.{AreNoGreater}
-use Rattle.cl_bound.specs.Promises.{AreSafe}
-use Rattle.cl_bound.specs.SettledChains.{IsGroupOfTask}
+use Rattle.cl_bound.specs.{Bounds.{Lengths, AreBoundsOf}, declared.group_timing.GroupTiming.GroupTiming, Timings.{IsTimingOf, AlwaysKeeps}, NoGreater.AreNoGreater, Promises.AreSafe, SettledChains.IsGroupOfTask}
 use Rattle.cl_bound.proofs.ChainBounds.{AreAlwaysKept}
 use Rattle.cl_phase.specs.TightBounds.{stops_of, slowest, last_write, tight_bounds}
-use Rattle.cl_phase.proofs.DelaySafety.{delays_within}
-use Rattle.cl_phase.proofs.NoGreaterSums.{no_greater_than_sums}
-use Rattle.cl_phase.proofs.SafeRuns.{bounds_at_least}
-use Rattle.cl_phase.proofs.StopsOfGroups.{have_stops, are_steps_of}
+use Rattle.cl_phase.proofs.{DelaySafety.delays_within, NoGreaterSums.no_greater_than_sums, SafeRuns.bounds_at_least, StopsOfGroups.{have_stops, are_steps_of}}
 
 -- ---- safe
 

@@ -2,15 +2,9 @@
 use Rattle.std.proofs.Common.{◌≡◌, ℕ, suc, ◌+◌, ◌-◌, ◌*◌, ◌<◌, ◌≤◌, ℤ, pos, ◌+ℤ◌, ◌-ℤ◌, ◌≤ℤ◌, List, length, slice_index_or, ap, sym, ◌∙◌, subst, arith}
 use Rattle.std.proofs.lemmas.Int.{ints}
 use Rattle.std.proofs.lemmas.List.{get_or_default}
-use Rattle.cl_phase.specs.declared.stop.Stop.{Stop}
-use Rattle.cl_phase.specs.Pace.{IsPace, first_from, last_by}
+use Rattle.cl_phase.specs.{declared.{stop.Stop.Stop, pace.Pace.{Pace, TheVariants.{Kept, Free}}}, Pace.{IsPace, first_from, last_by}, Walks.{no_stop, pace_at, lag_at, onward, back}, Inner.Ranges.{FARTHEST_START, FARTHEST_WALKED, AreStopsInRange, IsPaceInRange}}
 use Rattle.cl_model.specs.declared.limits.TheConstants.{MOST_TICKS}
-use Rattle.cl_stim.specs.Integers.{IsIntegerWithin}
-use Rattle.cl_stim.specs.Phase.{IsMoment}
-use Rattle.cl_phase.specs.declared.pace.Pace.{Pace}
-use Rattle.cl_phase.specs.declared.pace.Pace.TheVariants.{Kept, Free}
-use Rattle.cl_phase.specs.Walks.{no_stop, pace_at, lag_at, onward, back}
-use Rattle.cl_phase.specs.Inner.Ranges.{FARTHEST_START, FARTHEST_WALKED, AreStopsInRange, IsPaceInRange}
+use Rattle.cl_stim.specs.{Integers.IsIntegerWithin, Phase.IsMoment}
 
 -- a hop goes less far than this: its lag is at most 10^12 ticks, and so is the distance to the next arrival
 abbrev pub HOP : ℕ

@@ -6,18 +6,9 @@ use Rattle.std.proofs.Math.Nat.{dvd-mul_left}
 use Rattle.std.proofs.lemmas.Nat.Gcd.{dvd_trans}
 use Rattle.std.proofs.lemmas.Int.{ints}
 use Rattle.cl_model.specs.Holds.{greatest_by}
-use Rattle.cl_stim.specs.declared.phase.Phase.{Phase}
-use Rattle.cl_stim.specs.Phase.{IsArrivalOf}
-use Rattle.cl_phase.specs.declared.pace.Pace.{Pace}
-use Rattle.cl_phase.specs.declared.pace.Pace.TheVariants.{Kept, Free}
-use Rattle.cl_phase.specs.declared.stop.Stop.{Stop}
-use Rattle.cl_phase.specs.Pace.{ComesRound, AreNeighbours}
-use Rattle.cl_phase.specs.Walks.{pace_at}
-use Rattle.cl_phase.specs.TightBounds.{hyperperiod_in, starts, ticks_or_none, length_from, reduced_from, bounds_from}
-use Rattle.cl_phase.proofs.Stepped.{IsStepped}
-use Rattle.cl_phase.proofs.Walking.{KeepsPhase, IsFreeAt}
-use Rattle.cl_phase.proofs.WalksMove.{length_moves, reduced_moves}
-use Rattle.cl_phase.proofs.ArrivalsMove.{StandsAs, stands_as, arrives_later, arrives_earlier}
+use Rattle.cl_stim.specs.{declared.phase.Phase.Phase, Phase.IsArrivalOf}
+use Rattle.cl_phase.specs.{declared.{pace.Pace.{Pace, TheVariants.{Kept, Free}}, stop.Stop.Stop}, Pace.{ComesRound, AreNeighbours}, Walks.pace_at, TightBounds.{hyperperiod_in, starts, ticks_or_none, length_from, reduced_from, bounds_from}}
+use Rattle.cl_phase.proofs.{Stepped.IsStepped, Walking.{KeepsPhase, IsFreeAt}, WalksMove.{length_moves, reduced_moves}, ArrivalsMove.{StandsAs, stands_as, arrives_later, arrives_earlier}}
 
 -- what is needed of the groups of a chain and the place from which its walks start: the paces step and come round, and
 -- the group of the place keeps its phase, or it is the first and none does

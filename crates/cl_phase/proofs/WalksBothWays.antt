@@ -3,10 +3,7 @@
 use Rattle.std.proofs.Common.{◌≡◌, ℕ, zero, suc, ◌+◌, ◌-◌, ◌<◌, ◌↔◌, List, length, ap, ◌∙◌, arith}
 use Rattle.std.specs.Prelude.{ℤ, ◌+ℤ◌, ◌-ℤ◌, ◌≤ℤ◌}
 use Rattle.std.proofs.lemmas.Int.{ints}
-use Rattle.cl_phase.specs.declared.pace.Pace.{Pace}
-use Rattle.cl_phase.specs.declared.stop.Stop.{Stop}
-use Rattle.cl_phase.specs.Pace.{first_from, last_by}
-use Rattle.cl_phase.specs.Walks.{pace_at, lag_at, onward, back}
+use Rattle.cl_phase.specs.{declared.{pace.Pace.Pace, stop.Stop.Stop}, Pace.{first_from, last_by}, Walks.{pace_at, lag_at, onward, back}}
 use Rattle.cl_phase.proofs.Stepped.{IsStepped}
 
 module _ (pace : Pace) (stepped : IsStepped pace) where

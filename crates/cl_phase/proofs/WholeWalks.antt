@@ -10,15 +10,9 @@ use Rattle.std.proofs.lemmas.Int.{ints}
 use Rattle.std.proofs.lemmas.List.FromFn.{map-range_with_len_more}
 use Rattle.cl_model.specs.declared.chain.RequirementKind.{RequirementKind}
 use Rattle.cl_stim.specs.Integers.{IsIntegerWithin}
-use Rattle.cl_phase.specs.declared.stop.Stop.{Stop}
-use Rattle.cl_phase.specs.declared.whole.WholeWalk.{WholeWalk}
-use Rattle.cl_phase.specs.Pace.{previous, next}
-use Rattle.cl_phase.specs.Walks.{pace_at, onward, back}
-use Rattle.cl_phase.specs.TightBounds.{slowest, hyperperiod_in}
-use Rattle.cl_phase.specs.Whole.{is_kept, missed_at, taken_at, counted_at, LATEST_STEADY, IsLeastTurns, IsMovedWalk}
+use Rattle.cl_phase.specs.{declared.{stop.Stop.Stop, whole.WholeWalk.WholeWalk}, Pace.{previous, next}, Walks.{pace_at, onward, back}, TightBounds.{slowest, hyperperiod_in}, Whole.{is_kept, missed_at, taken_at, counted_at, LATEST_STEADY, IsLeastTurns, IsMovedWalk}}
 use Rattle.cl_phase.specs.Inner.Ranges.{FARTHEST_JOB, FARTHEST_MOVE, LONGEST_HYPERPERIOD, AreStopsInRange}
-use Rattle.cl_phase.proofs.SlowestFacts.{hyperperiod_is_some}
-use Rattle.cl_phase.proofs.WalkRanges.{goes_on}
+use Rattle.cl_phase.proofs.{SlowestFacts.hyperperiod_is_some, WalkRanges.goes_on}
 
 module _ (stops : List Stop) (place : ℕ) (start : ℤ) (group : ℕ) where
   abbrev on_the_way_back : ℤ

@@ -6,31 +6,15 @@ use Rattle.std.specs.List.{list_all, range_with_len}
 use Rattle.std.proofs.lemmas.Int.{ints}
 use Rattle.std.proofs.lemmas.List.Elements.{All-head, All-tail}
 use Rattle.std.proofs.lemmas.List.{length-map}
-use Rattle.cl_model.specs.declared.group.Group.{Group}
-use Rattle.cl_model.specs.Holds.{greatest_by}
-use Rattle.cl_model.specs.Timing.{greatest_distance}
+use Rattle.cl_model.specs.{declared.group.Group.Group, Holds.greatest_by, Timing.greatest_distance}
 use Rattle.cl_model.proofs.Greatest.{greatest_least, greatest_within}
 use Rattle.cl_runs.specs.TaskTiming.{System, timing_at, IsSound}
-use Rattle.cl_stim.specs.declared.phase.Phase.{Phase}
-use Rattle.cl_stim.specs.Phase.{phase_of}
-use Rattle.cl_bound.specs.declared.group_timing.GroupTiming.{GroupTiming}
-use Rattle.cl_bound.specs.NoGreater.{StaysWithin, AreNoGreater}
-use Rattle.cl_bound.specs.SettledChains.{IsGroupOfTask}
+use Rattle.cl_stim.specs.{declared.phase.Phase.Phase, Phase.phase_of, Multiples.hyperperiod_of}
+use Rattle.cl_bound.specs.{declared.group_timing.GroupTiming.GroupTiming, NoGreater.{StaysWithin, AreNoGreater}, SettledChains.IsGroupOfTask}
 use Rattle.cl_bound.proofs.NoGreater.{lag_no_greater, last_stays}
-use Rattle.cl_phase.specs.declared.pace.Pace.{Pace}
-use Rattle.cl_phase.specs.declared.pace.Pace.TheVariants.{Kept, Free}
-use Rattle.cl_phase.specs.declared.stop.Stop.{Stop}
-use Rattle.cl_phase.specs.Pace.{first_from, last_by, previous, next}
-use Rattle.cl_stim.specs.Multiples.{hyperperiod_of}
-use Rattle.cl_phase.specs.Kept.{phase_beside, kept_with, pace_with, phases_in}
-use Rattle.cl_phase.specs.Walks.{pace_at, lag_at, onward, back, last_place, arrival_at_last, arrival_at_first}
+use Rattle.cl_phase.specs.{declared.{pace.Pace.{Pace, TheVariants.{Kept, Free}}, stop.Stop.Stop}, Pace.{first_from, last_by, previous, next}, Kept.{phase_beside, kept_with, pace_with, phases_in}, Walks.{pace_at, lag_at, onward, back, last_place, arrival_at_last, arrival_at_first}}
 use Rattle.cl_phase.specs.TightBounds.{lag_to_next, stops_beside, stops_of, hyperperiod_in, has_no_fewer, is_slowest, slowest, starts, ticks_or_none, length_from, reduced_from, delay_from, bounds_from, span_of, last_write, tight_bounds}
-use Rattle.cl_phase.proofs.Stepped.{IsStepped}
-use Rattle.cl_phase.proofs.WalksBothWays.{first_rises, last_rises}
-use Rattle.cl_phase.proofs.SlowestGroups.{pace_of, along}
-use Rattle.cl_phase.proofs.SlowestFacts.{slowest_within}
-use Rattle.cl_phase.proofs.StopFacts.{length_stops, stops_step}
-use Rattle.cl_phase.proofs.DelaySteps.{next_rises}
+use Rattle.cl_phase.proofs.{Stepped.IsStepped, WalksBothWays.{first_rises, last_rises}, SlowestGroups.{pace_of, along}, SlowestFacts.slowest_within, StopFacts.{length_stops, stops_step}, DelaySteps.next_rises}
 
 -- stops go at the paces of others, and no lag of theirs is greater
 pub record AreCloser (stops others : List Stop) : Type 0 where

@@ -1,13 +1,7 @@
 -- Groups along which some legal run has complete chains, and bounds of a tick or more.
 use Rattle.std.specs.Prelude.{◌≤◌, List}
-use Rattle.cl_model.specs.declared.chain.LengthKind.{LengthKind}
-use Rattle.cl_model.specs.declared.group.Group.{Group}
-use Rattle.cl_runs.specs.TaskTiming.{System}
-use Rattle.cl_runs.specs.Run.{Run}
-use Rattle.cl_runs.specs.Legal.{IsLegal}
-use Rattle.cl_runs.specs.Chains.{JobChain, chain_length}
-use Rattle.cl_runs.specs.RunChains.{run_moments}
-use Rattle.cl_runs.specs.Requirements.{IsChainOfKind}
+use Rattle.cl_model.specs.declared.{chain.LengthKind.LengthKind, group.Group.Group}
+use Rattle.cl_runs.specs.{TaskTiming.System, Run.Run, Legal.IsLegal, Chains.{JobChain, chain_length}, RunChains.run_moments, Requirements.IsChainOfKind}
 use Rattle.cl_bound.specs.Bounds.{Lengths}
 
 -- a run has a complete chain of a kind along groups, and it lasts 1 tick or more

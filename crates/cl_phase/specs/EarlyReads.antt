@@ -1,7 +1,6 @@
 -- Groups that read before their next job arrives.
 use Rattle.std.specs.Prelude.{◌≤◌}
-use Rattle.cl_model.specs.declared.group.Group.{Group}
-use Rattle.cl_model.specs.Timing.{least_distance}
+use Rattle.cl_model.specs.{declared.group.Group.Group, Timing.least_distance}
 use Rattle.cl_runs.specs.TaskTiming.{System, timing_at}
 use Rattle.cl_bound.specs.declared.group_timing.GroupTiming.{GroupTiming}
 

@@ -2,12 +2,8 @@
 -- soon. Times are in ticks.
 use Rattle.std.specs.Prelude.{ℕ, Bool, nat_le, if◌then◌else◌, List, [], ◌∷◌, Option, Some, None}
 use Rattle.std.specs.List.{list_any}
-use Rattle.cl_stim.specs.declared.phase.Phase.{Phase}
-use Rattle.cl_stim.specs.Multiples.{hyperperiod_of}
-use Rattle.cl_stim.specs.Phase.{arrivals_in}
-use Rattle.cl_phase.specs.declared.pace.TheConstants.{MOST_ARRIVALS}
-use Rattle.cl_phase.specs.declared.pace.Pace.{Pace}
-use Rattle.cl_phase.specs.declared.pace.Pace.TheVariants.{Kept, Free}
+use Rattle.cl_stim.specs.{declared.phase.Phase.Phase, Multiples.hyperperiod_of, Phase.arrivals_in}
+use Rattle.cl_phase.specs.declared.pace.{TheConstants.MOST_ARRIVALS, Pace.{Pace, TheVariants.{Kept, Free}}}
 
 -- phases come round soon where in their hyperperiod one of them has few arrivals
 abbrev pub come_round_soon : List Phase → Bool

@@ -3,8 +3,7 @@
 use Rattle.std.specs.Prelude.{ℕ, ℤ, pos, ◌+ℤ◌, ◌-ℤ◌, ◌≤ℤ◌, ◌≤◌, ◌-◌, ◌*◌}
 use Rattle.std.specs.Int.{◌∣◌}
 use Rattle.cl_stim.specs.Phase.{IsPhase, AreConsecutive, first_arrival, last_arrival}
-use Rattle.cl_phase.specs.declared.pace.Pace.{Pace}
-use Rattle.cl_phase.specs.declared.pace.Pace.TheVariants.{Kept, Free}
+use Rattle.cl_phase.specs.declared.pace.Pace.{Pace, TheVariants.{Kept, Free}}
 
 -- the first arrival at or after a moment; without a phase the latest moment at which it may come
 unfoldable pub first_from : Pace → (moment : ℤ) → ℤ

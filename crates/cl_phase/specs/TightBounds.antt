@@ -1,22 +1,11 @@
 -- The tight bounds of a chain: the longest that its walks last. Times are in ticks.
 use Rattle.std.specs.Prelude.{ℕ, ℤ, pos, negsuc, ◌+ℤ◌, ◌-ℤ◌, Bool, true, false, nat_le, List, [], ◌∷◌, map, filter, find, unwrap_or, length}
 use Rattle.std.specs.List.{list_all, range_with_len}
-use Rattle.cl_model.specs.Holds.{greatest_by}
-use Rattle.cl_model.specs.declared.group.Group.{Group}
-use Rattle.cl_model.specs.Timing.{greatest_distance}
+use Rattle.cl_model.specs.{Holds.greatest_by, declared.group.Group.Group, Timing.greatest_distance}
 use Rattle.cl_runs.specs.TaskTiming.{System, timing_at}
-use Rattle.cl_stim.specs.declared.phase.Phase.{Phase}
-use Rattle.cl_stim.specs.Phase.{phase_of, arrives_at, arrivals_in}
-use Rattle.cl_stim.specs.Multiples.{hyperperiod_of}
-use Rattle.cl_bound.specs.Bounds.{Lengths, last_of}
-use Rattle.cl_bound.specs.Hops.{lag}
-use Rattle.cl_bound.specs.declared.group_timing.GroupTiming.{GroupTiming}
-use Rattle.cl_phase.specs.declared.pace.Pace.{Pace}
-use Rattle.cl_phase.specs.declared.pace.Pace.TheVariants.{Kept, Free}
-use Rattle.cl_phase.specs.declared.stop.Stop.{Stop}
-use Rattle.cl_phase.specs.Pace.{previous, next}
-use Rattle.cl_phase.specs.Kept.{phase_beside, kept_with, pace_with, phases_in}
-use Rattle.cl_phase.specs.Walks.{pace_at, last_place, arrival_at_last, arrival_at_first}
+use Rattle.cl_stim.specs.{declared.phase.Phase.Phase, Phase.{phase_of, arrives_at, arrivals_in}, Multiples.hyperperiod_of}
+use Rattle.cl_bound.specs.{Bounds.{Lengths, last_of}, Hops.lag, declared.group_timing.GroupTiming.GroupTiming}
+use Rattle.cl_phase.specs.{declared.{pace.Pace.{Pace, TheVariants.{Kept, Free}}, stop.Stop.Stop}, Pace.{previous, next}, Kept.{phase_beside, kept_with, pace_with, phases_in}, Walks.{pace_at, last_place, arrival_at_last, arrival_at_first}}
 
 -- ---- the groups of a chain
 

@@ -1,17 +1,10 @@
 -- Why the tight bound of a chain is what it is: the arrivals of a walk that lasts as long. Times are in ticks.
 use Rattle.std.specs.Prelude.{ℕ, ◌+◌, ◌-◌, ℤ, pos, ◌==◌, List, map, find, unwrap_or}
 use Rattle.std.specs.List.{range_with_len}
-use Rattle.cl_model.specs.declared.chain.LengthKind.TheVariants.{Reaction, Age, Reduced}
-use Rattle.cl_model.specs.declared.chain.RequirementKind.{RequirementKind}
-use Rattle.cl_model.specs.declared.chain.RequirementKind.TheVariants.{Length, Delay}
-use Rattle.cl_model.specs.declared.group.Group.{Group}
+use Rattle.cl_model.specs.declared.{chain.{LengthKind.TheVariants.{Reaction, Age, Reduced}, RequirementKind.{RequirementKind, TheVariants.{Length, Delay}}}, group.Group.Group}
 use Rattle.cl_runs.specs.TaskTiming.{System}
 use Rattle.cl_bound.specs.declared.group_timing.GroupTiming.{GroupTiming}
-use Rattle.cl_phase.specs.declared.stop.Stop.{Stop}
-use Rattle.cl_phase.specs.declared.walked.Walked.{Walked}
-use Rattle.cl_phase.specs.Pace.{previous}
-use Rattle.cl_phase.specs.Walks.{pace_at, last_place, onward, back}
-use Rattle.cl_phase.specs.TightBounds.{stops_of, span_of, last_write, slowest, hyperperiod_in, starts, ticks_or_none, length_from, reduced_from, delay_from}
+use Rattle.cl_phase.specs.{declared.{stop.Stop.Stop, walked.Walked.Walked}, Pace.previous, Walks.{pace_at, last_place, onward, back}, TightBounds.{stops_of, span_of, last_write, slowest, hyperperiod_in, starts, ticks_or_none, length_from, reduced_from, delay_from}}
 
 -- how long the walks from an arrival of the group of a place last, of a kind
 abbrev pub lasts_from : RequirementKind → List Stop → (span : ℤ) → (write place : ℕ) → (arrival : ℤ) → ℤ

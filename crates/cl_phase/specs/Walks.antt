@@ -1,10 +1,7 @@
 -- Walks along a chain, from an arrival of one of its groups: onward to the arrivals that take what its jobs write, and
 -- back to those that just miss it. Times are in ticks.
 use Rattle.std.specs.Prelude.{ℕ, zero, suc, ◌+◌, ◌-◌, ℤ, pos, ◌+ℤ◌, ◌-ℤ◌, List, length, slice_index_or}
-use Rattle.cl_phase.specs.declared.pace.Pace.{Pace}
-use Rattle.cl_phase.specs.declared.pace.Pace.TheVariants.{Free}
-use Rattle.cl_phase.specs.declared.stop.Stop.{Stop}
-use Rattle.cl_phase.specs.Pace.{first_from, last_by, previous}
+use Rattle.cl_phase.specs.{declared.{pace.Pace.{Pace, TheVariants.Free}, stop.Stop.Stop}, Pace.{first_from, last_by, previous}}
 
 -- what stands past the last group
 unfoldable pub no_stop : Stop

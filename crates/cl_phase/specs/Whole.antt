@@ -2,21 +2,10 @@
 -- are in ticks.
 use Rattle.std.specs.Prelude.{◌≡◌, ℕ, ◌-◌, ◌*◌, ◌≤◌, ℤ, pos, ◌+ℤ◌, ◌≤ℤ◌, ◌<ℤ◌, Bool, true, false, ◌==◌, nat_le, ◌&&◌, if◌then◌else◌, List, length, map}
 use Rattle.std.specs.List.{range_with_len}
-use Rattle.cl_model.specs.declared.chain.LengthKind.TheVariants.{Reaction, Age, Reduced}
-use Rattle.cl_model.specs.declared.chain.RequirementKind.{RequirementKind}
-use Rattle.cl_model.specs.declared.chain.RequirementKind.TheVariants.{Length, Delay}
-use Rattle.cl_model.specs.declared.group.Group.{Group}
-use Rattle.cl_model.specs.declared.limits.TheConstants.{MOST_TICKS}
+use Rattle.cl_model.specs.declared.{chain.{LengthKind.TheVariants.{Reaction, Age, Reduced}, RequirementKind.{RequirementKind, TheVariants.{Length, Delay}}}, group.Group.Group, limits.TheConstants.MOST_TICKS}
 use Rattle.cl_runs.specs.TaskTiming.{System}
 use Rattle.cl_bound.specs.declared.group_timing.GroupTiming.{GroupTiming}
-use Rattle.cl_phase.specs.declared.pace.Pace.{Pace}
-use Rattle.cl_phase.specs.declared.pace.Pace.TheVariants.{Kept, Free}
-use Rattle.cl_phase.specs.declared.stop.Stop.{Stop}
-use Rattle.cl_phase.specs.declared.whole.WholeWalk.{WholeWalk}
-use Rattle.cl_phase.specs.Pace.{previous, next}
-use Rattle.cl_phase.specs.Walks.{pace_at, last_place, onward, back}
-use Rattle.cl_phase.specs.TightBounds.{stops_of, span_of, last_write, slowest, hyperperiod_in}
-use Rattle.cl_phase.specs.Walked.{walk_start}
+use Rattle.cl_phase.specs.{declared.{pace.Pace.{Pace, TheVariants.{Kept, Free}}, stop.Stop.Stop, whole.WholeWalk.WholeWalk}, Pace.{previous, next}, Walks.{pace_at, last_place, onward, back}, TightBounds.{stops_of, span_of, last_write, slowest, hyperperiod_in}, Walked.walk_start}
 
 -- whether a group keeps its phase
 abbrev pub is_kept : Pace → Bool

@@ -1,12 +1,8 @@
 //! The tight bounds of a chain, and of a part of one. Times are in ticks.
 ghost use Rattle.std.specs.Prelude.{◌≡◌, ◌<◌, ◌≤◌, length, map, All};
-ghost use Rattle.cl_model.specs.declared.limits.TheConstants.{MOST_STEPS};
-ghost use Rattle.cl_model.specs.declared.group.Group.{Group};
-ghost use Rattle.cl_model.specs.Groups.{IsGroupOf};
-ghost use Rattle.cl_model.specs.Validity.{IsValid};
+ghost use Rattle.cl_model.specs.{declared.{limits.TheConstants.MOST_STEPS, group.Group.Group}, Groups.IsGroupOf, Validity.IsValid};
 ghost use Rattle.cl_runs.specs.SystemOf.{system_of};
-ghost use Rattle.cl_bound.specs.Hops.{IsNear};
-ghost use Rattle.cl_bound.specs.declared.group_timing.GroupTiming.{GroupTiming};
+ghost use Rattle.cl_bound.specs.{Hops.IsNear, declared.group_timing.GroupTiming.GroupTiming};
 ghost use Rattle.cl_phase.specs.TightBounds.{tight_bounds};
 
 use crate::course::course_of;

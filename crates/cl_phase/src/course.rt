@@ -1,8 +1,6 @@
 //! The groups of a chain, put together for its walks. Times are in ticks.
 ghost use Rattle.std.specs.Prelude.{◌≡◌, ◌<◌, ◌≤◌, length, All};
-ghost use Rattle.cl_model.specs.declared.limits.TheConstants.{MOST_TICKS, MOST_STEPS};
-ghost use Rattle.cl_model.specs.Groups.{IsGroupOf};
-ghost use Rattle.cl_model.specs.Validity.{IsValid};
+ghost use Rattle.cl_model.specs.{declared.limits.TheConstants.{MOST_TICKS, MOST_STEPS}, Groups.IsGroupOf, Validity.IsValid};
 ghost use Rattle.cl_runs.specs.SystemOf.{system_of};
 ghost use Rattle.cl_stim.specs.Integers.{IsIntegerWithin};
 ghost use Rattle.cl_bound.specs.Hops.{IsNear};

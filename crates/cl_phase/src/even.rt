@@ -1,9 +1,6 @@
 //! Walks that change evenly from start to start. Times are in ticks.
 ghost use Rattle.std.specs.Prelude.{◌≡◌, ◌+◌, ◌*◌, ◌<◌, ◌≤◌, ℤ, true, length};
-ghost use Rattle.cl_phase.specs.Pace.{ComesRound};
-ghost use Rattle.cl_phase.specs.Walks.{pace_at, last_place, arrival_at_first, arrival_at_last};
-ghost use Rattle.cl_phase.specs.Inner.Even.{AreEvenTurns, LeadsEvenly};
-ghost use Rattle.cl_phase.specs.Inner.Ranges.{LONGEST_HYPERPERIOD, IsPaceInRange, AreStopsInRange};
+ghost use Rattle.cl_phase.specs.{Pace.ComesRound, Walks.{pace_at, last_place, arrival_at_first, arrival_at_last}, Inner.{Even.{AreEvenTurns, LeadsEvenly}, Ranges.{LONGEST_HYPERPERIOD, IsPaceInRange, AreStopsInRange}}};
 
 use crate::pace::Pace;
 use crate::stop::Stop;

@@ -1,13 +1,8 @@
 //! Which phases of a chain are kept, one group after the other. Times are in ticks.
 ghost use Rattle.std.specs.Prelude.{◌≡◌, ◌≤◌, ◌<◌, false, List, [], ◌∷◌, IfNone, IfSome, length};
-ghost use Rattle.cl_model.specs.Ranges.{IsKindInRange};
-ghost use Rattle.cl_model.specs.Timing.{IsKindOrdered};
-ghost use Rattle.cl_stim.specs.declared.phase.Phase.{Phase};
-ghost use Rattle.cl_stim.specs.Phase.{IsPhaseInRange};
-ghost use Rattle.cl_phase.specs.Kept.{come_round_soon};
-ghost use Rattle.cl_phase.specs.TightBounds.{slowest};
-ghost use Rattle.cl_phase.specs.Inner.Ranges.{IsPaceInRange, AreStopsInRange};
-ghost use Rattle.cl_phase.specs.Inner.Keeping.{AreKept, AreKeptWith, IsBeside, AreKeptIn, arrives_seldom};
+ghost use Rattle.cl_model.specs.{Ranges.IsKindInRange, Timing.IsKindOrdered};
+ghost use Rattle.cl_stim.specs.{declared.phase.Phase.Phase, Phase.IsPhaseInRange};
+ghost use Rattle.cl_phase.specs.{Kept.come_round_soon, TightBounds.slowest, Inner.{Ranges.{IsPaceInRange, AreStopsInRange}, Keeping.{AreKept, AreKeptWith, IsBeside, AreKeptIn, arrives_seldom}}};
 
 use crate::pace::{MOST_ARRIVALS, Pace};
 use crate::stop::Stop;

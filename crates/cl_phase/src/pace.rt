@@ -2,9 +2,7 @@
 ghost use Rattle.std.specs.Prelude.{◌≡◌, pos, ◌+ℤ◌, ◌-ℤ◌, ◌≤ℤ◌};
 ghost use Rattle.cl_model.specs.declared.limits.TheConstants.{MOST_TICKS};
 ghost use Rattle.cl_stim.specs.Phase.{IsMoment};
-ghost use Rattle.cl_phase.specs.Pace.{first_from, last_by, previous, next};
-ghost use Rattle.cl_phase.specs.Whole.{is_kept};
-ghost use Rattle.cl_phase.specs.Inner.Ranges.{IsPaceInRange};
+ghost use Rattle.cl_phase.specs.{Pace.{first_from, last_by, previous, next}, Whole.is_kept, Inner.Ranges.IsPaceInRange};
 
 use cl_stim::Phase;
 

@@ -1,14 +1,6 @@
 //! The longest walks from the arrivals of a group. Times are in ticks.
 ghost use Rattle.std.specs.Prelude.{◌≡◌, ◌+◌, ◌*◌, ◌<◌, ◌≤◌, max, ℕ, List, length};
-ghost use Rattle.cl_phase.specs.declared.pace.Pace.{Pace};
-ghost use Rattle.cl_phase.specs.declared.stop.Stop.{Stop};
-ghost use Rattle.cl_phase.specs.declared.walk.Ends.{Ends};
-ghost use Rattle.cl_phase.specs.Pace.{ComesRound};
-ghost use Rattle.cl_phase.specs.Walks.{pace_at};
-ghost use Rattle.cl_phase.specs.TightBounds.{starts};
-ghost use Rattle.cl_phase.specs.Inner.Ranges.{LONGEST_HYPERPERIOD, AreStopsInRange, AreEndsInRange};
-ghost use Rattle.cl_phase.specs.Inner.Longest.{longer_of, longest_walk};
-ghost use Rattle.cl_phase.specs.Inner.Scanned.{AreLongestFrom, IsInStrides};
+ghost use Rattle.cl_phase.specs.{declared.{pace.Pace.Pace, stop.Stop.Stop, walk.Ends.Ends}, Pace.ComesRound, Walks.pace_at, TightBounds.starts, Inner.{Ranges.{LONGEST_HYPERPERIOD, AreStopsInRange, AreEndsInRange}, Longest.{longer_of, longest_walk}, Scanned.{AreLongestFrom, IsInStrides}}};
 
 use crate::even::changes_evenly;
 use crate::pace::Pace;

@@ -3,8 +3,7 @@ ghost use Rattle.std.specs.Prelude.{◌*◌, ◌≤◌};
 ghost use Rattle.std.specs.Int.{◌∣◌};
 ghost use Rattle.cl_model.specs.declared.limits.TheConstants.{MOST_TICKS};
 ghost use Rattle.cl_stim.specs.Phase.{IsPhaseInRange};
-ghost use Rattle.cl_phase.specs.declared.stride.TheConstants.{MOST_TURNS};
-ghost use Rattle.cl_phase.specs.Inner.Ranges.{IsPaceInRange, AreStopsInRange};
+ghost use Rattle.cl_phase.specs.{declared.stride.TheConstants.MOST_TURNS, Inner.Ranges.{IsPaceInRange, AreStopsInRange}};
 
 use crate::pace::Pace;
 use crate::stop::Stop;

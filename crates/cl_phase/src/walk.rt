@@ -1,11 +1,7 @@
 //! Walks along a chain from an arrival of one of its groups. Times are in ticks.
 ghost use Rattle.std.specs.Prelude.{◌≡◌, ◌<◌, ◌≤◌, ◌-◌, length};
 ghost use Rattle.cl_stim.specs.Integers.{IsIntegerWithin};
-ghost use Rattle.cl_phase.specs.Pace.{previous};
-ghost use Rattle.cl_phase.specs.Walks.{pace_at, onward, back, arrival_at_last, arrival_at_first};
-ghost use Rattle.cl_phase.specs.TightBounds.{ticks_or_none};
-ghost use Rattle.cl_phase.specs.Inner.Ranges.{FARTHEST_START, FARTHEST_WALKED, AreStopsInRange, AreEndsInRange};
-ghost use Rattle.cl_phase.specs.Inner.Longest.{lengths_at};
+ghost use Rattle.cl_phase.specs.{Pace.previous, Walks.{pace_at, onward, back, arrival_at_last, arrival_at_first}, TightBounds.ticks_or_none, Inner.{Ranges.{FARTHEST_START, FARTHEST_WALKED, AreStopsInRange, AreEndsInRange}, Longest.lengths_at}};
 
 use crate::stop::Stop;
 

@@ -1,18 +1,10 @@
 //! The walk of a chain that shows why its tight bound is what it is. Times are in ticks.
 ghost use Rattle.std.specs.Prelude.{◌≡◌, ◌<◌, ◌≤◌, pos, length, map, All, IfOk};
-ghost use Rattle.cl_bound.specs.Hops.{IsNear};
-ghost use Rattle.cl_bound.specs.declared.group_timing.GroupTiming.{GroupTiming};
-ghost use Rattle.cl_model.specs.declared.group.Group.{Group};
-ghost use Rattle.cl_model.specs.declared.limits.TheConstants.{MOST_STEPS};
-ghost use Rattle.cl_model.specs.Groups.{IsGroupOf};
+ghost use Rattle.cl_bound.specs.{Hops.IsNear, declared.group_timing.GroupTiming.GroupTiming};
+ghost use Rattle.cl_model.specs.{declared.{group.Group.Group, limits.TheConstants.MOST_STEPS}, Groups.IsGroupOf};
 ghost use Rattle.cl_runs.specs.SystemOf.{system_of};
 ghost use Rattle.cl_stim.specs.Integers.{IsIntegerWithin};
-ghost use Rattle.cl_phase.specs.declared.pace.Pace.{Pace};
-ghost use Rattle.cl_phase.specs.TightBounds.{starts};
-ghost use Rattle.cl_phase.specs.Walks.{pace_at};
-ghost use Rattle.cl_phase.specs.Walked.{start_among, missed, taken, walked_of};
-ghost use Rattle.cl_phase.specs.Inner.Ranges.{FARTHEST_START, LONGEST_HYPERPERIOD, AreStopsInRange, AreEndsInRange};
-ghost use Rattle.cl_phase.specs.Inner.Longest.{span_between, length_of_kind};
+ghost use Rattle.cl_phase.specs.{declared.pace.Pace.Pace, TightBounds.starts, Walks.pace_at, Walked.{start_among, missed, taken, walked_of}, Inner.{Ranges.{FARTHEST_START, LONGEST_HYPERPERIOD, AreStopsInRange, AreEndsInRange}, Longest.{span_between, length_of_kind}}};
 
 use crate::course::course_of;
 use crate::pace::Pace;

@@ -2,19 +2,11 @@
 //! one that takes. Times are in ticks.
 ghost use Rattle.std.specs.Prelude.{◌≡◌, ◌<◌, ◌≤◌, ◌^◌, ◌-◌, pos, ◌+ℤ◌, ◌-ℤ◌, ◌≤ℤ◌, length, map, All, IfOk};
 ghost use Rattle.std.specs.List.{range_with_len};
-ghost use Rattle.cl_bound.specs.Hops.{IsNear};
-ghost use Rattle.cl_bound.specs.declared.group_timing.GroupTiming.{GroupTiming};
-ghost use Rattle.cl_model.specs.declared.group.Group.{Group};
-ghost use Rattle.cl_model.specs.declared.limits.TheConstants.{MOST_STEPS};
-ghost use Rattle.cl_model.specs.Groups.{IsGroupOf};
-ghost use Rattle.cl_model.specs.Ranges.{IsKindInRange};
-ghost use Rattle.cl_model.specs.Timing.{IsKindOrdered};
+ghost use Rattle.cl_bound.specs.{Hops.IsNear, declared.group_timing.GroupTiming.GroupTiming};
+ghost use Rattle.cl_model.specs.{declared.{group.Group.Group, limits.TheConstants.MOST_STEPS}, Groups.IsGroupOf, Ranges.IsKindInRange, Timing.IsKindOrdered};
 ghost use Rattle.cl_runs.specs.SystemOf.{system_of};
-ghost use Rattle.cl_stim.specs.Integers.{IsIntegerWithin};
-ghost use Rattle.cl_stim.specs.Phase.{IsMoment};
-ghost use Rattle.cl_phase.specs.Walks.{pace_at};
-ghost use Rattle.cl_phase.specs.Whole.{is_kept, missed_at, taken_at, takes_before, counted_at, LATEST_STEADY, IsLeastTurns, IsWholeWalkOf};
-ghost use Rattle.cl_phase.specs.Inner.Ranges.{FARTHEST_START, FARTHEST_JOB, FARTHEST_MOVE, AreStopsInRange};
+ghost use Rattle.cl_stim.specs.{Integers.IsIntegerWithin, Phase.IsMoment};
+ghost use Rattle.cl_phase.specs.{Walks.pace_at, Whole.{is_kept, missed_at, taken_at, takes_before, counted_at, LATEST_STEADY, IsLeastTurns, IsWholeWalkOf}, Inner.Ranges.{FARTHEST_START, FARTHEST_JOB, FARTHEST_MOVE, AreStopsInRange}};
 
 use crate::course::course_of;
 use crate::stop::Stop;

@@ -5,13 +5,7 @@ use Rattle.std.proofs.lemmas.Bool.{cases_lt, eqb-true}
 use Rattle.std.proofs.lemmas.List.{append-nil, get_or_append_left}
 use Rattle.std.proofs.lemmas.List.Elements.{All-nil, All-cons, All-append}
 use Rattle.std.proofs.lemmas.List.Quantifiers.{Any-push}
-use Rattle.cl_picture.specs.declared.window.Window.{Window}
-use Rattle.cl_picture.specs.declared.item.Item.{Item}
-use Rattle.cl_picture.specs.declared.item.Bar.{Bar}
-use Rattle.cl_picture.specs.declared.item.End.{End}
-use Rattle.cl_picture.specs.Window.{high_of}
-use Rattle.cl_picture.specs.Bars.{counts, bar_of, joined_bar, bars_from, bars}
-use Rattle.cl_picture.specs.Shown.{item_end, last_end, IsBarOf, ItemGroup, AreBarsOf}
+use Rattle.cl_picture.specs.{declared.{window.Window.Window, item.{Item.Item, Bar.Bar, End.End}}, Window.high_of, Bars.{counts, bar_of, joined_bar, bars_from, bars}, Shown.{item_end, last_end, IsBarOf, ItemGroup, AreBarsOf}}
 use Rattle.cl_picture.proofs.BarSides.{choose, weaker}
 
 last_end-push : (items : List Item) (item : Item) → last_end (items ++ item ∷ []) ≡ Some (item_end item)

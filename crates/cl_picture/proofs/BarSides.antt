@@ -4,12 +4,7 @@ use Rattle.std.specs.Prelude.{All, AllPairs, filter, ◌==◌}
 use Rattle.std.proofs.lemmas.Bool.{cases_lt, eqb-true, eqb-false}
 use Rattle.std.proofs.lemmas.List.Elements.{All-nil, All-cons, All-head, All-tail, All-filter, filter_passes, Contains-append_right}
 use Rattle.std.proofs.lemmas.List.Kept.{AllPairs-cons, AllPairs-filter}
-use Rattle.cl_picture.specs.declared.window.Window.{Window}
-use Rattle.cl_picture.specs.declared.item.Item.{Item}
-use Rattle.cl_picture.specs.declared.item.Bar.{Bar}
-use Rattle.cl_picture.specs.Window.{low_of, high_of}
-use Rattle.cl_picture.specs.Bars.{counts, bar_of, joined_bar, bars_from, bars}
-use Rattle.cl_picture.specs.Shown.{HaveTicks, EndInOrder, FollowEachOther, LieSideBySide, IsUnder}
+use Rattle.cl_picture.specs.{declared.{window.Window.Window, item.{Item.Item, Bar.Bar}}, Window.{low_of, high_of}, Bars.{counts, bar_of, joined_bar, bars_from, bars}, Shown.{HaveTicks, EndInOrder, FollowEachOther, LieSideBySide, IsUnder}}
 use Rattle.cl_picture.proofs.Units.{low_mono, high_near, low_least, high_most, high_apart, unit_wide}
 
 -- what is so of either choice is so of the one that is made

@@ -8,15 +8,8 @@ use Rattle.std.proofs.lemmas.List.Elements.{All-head, All-tail}
 use Rattle.std.proofs.lemmas.List.Sums.{AllPass-from_list_all}
 use Rattle.std.proofs.lemmas.List.FromFn.{length-range_with_len, get_or-range_with_len}
 use Rattle.std.proofs.Math.Nat.{mul-le-mul_left}
-use Rattle.cl_picture.specs.declared.axis.TheConstants.{STEPS}
-use Rattle.cl_picture.specs.declared.window.TheConstants.{MOST_WINDOW}
-use Rattle.cl_picture.specs.declared.window.Window.{Window}
-use Rattle.cl_picture.specs.Axis.{is_step, axis_step, window_step, tick_count, tick_at, tick_pieces, tick_line, axis}
-use Rattle.cl_picture.specs.Frame.{begin, end}
-use Rattle.cl_picture.specs.Window.{IsPictureWindow, span, x_of}
-use Rattle.cl_picture.proofs.BarSides.{choose}
-use Rattle.cl_picture.proofs.Lengths.{x_most}
-use Rattle.cl_picture.proofs.TextLengths.{IsWithin, AreWithin, HasDigits, digits, none, fixed, number, both, each_of, no_lines, wider_lines, a_line, lines_of}
+use Rattle.cl_picture.specs.{declared.{axis.TheConstants.STEPS, window.{TheConstants.MOST_WINDOW, Window.Window}}, Axis.{is_step, axis_step, window_step, tick_count, tick_at, tick_pieces, tick_line, axis}, Frame.{begin, end}, Window.{IsPictureWindow, span, x_of}}
+use Rattle.cl_picture.proofs.{BarSides.choose, Lengths.x_most, TextLengths.{IsWithin, AreWithin, HasDigits, digits, none, fixed, number, both, each_of, no_lines, wider_lines, a_line, lines_of}}
 
 -- ---- the step of an axis
 

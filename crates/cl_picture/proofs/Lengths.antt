@@ -3,8 +3,7 @@ use Rattle.std.proofs.Common.{ℕ, ◌+◌, ◌*◌, ◌/◌, ◌<◌, ◌≤◌
 use Rattle.std.proofs.lemmas.Bool.{cases_lt}
 use Rattle.std.proofs.Common.{inl, inr}
 use Rattle.std.proofs.Math.Nat.{mul-le-mul_left}
-use Rattle.cl_picture.specs.declared.window.Window.{Window}
-use Rattle.cl_picture.specs.Window.{IsPictureWindow, offset, span, x_of}
+use Rattle.cl_picture.specs.{declared.window.Window.Window, Window.{IsPictureWindow, offset, span, x_of}}
 
 -- a quotient is at most n where n times the divisor reaches
 pub quotient_le : (a d n : ℕ) → 0 < d → a ≤ d * n → a / d ≤ n

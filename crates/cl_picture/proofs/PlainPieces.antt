@@ -6,11 +6,7 @@ use Rattle.std.specs.Fmt.{digits, digits_onto, digit_glyph}
 use Rattle.std.proofs.lemmas.Bool.{lt-ltb}
 use Rattle.std.proofs.lemmas.Bool.Decides.{nat_tests}
 use Rattle.std.proofs.lemmas.List.Elements.{All-nil, All-cons}
-use Rattle.cl_picture.specs.declared.window.Window.{Window}
-use Rattle.cl_picture.specs.Pieces.{Piece, Fixed, Number, Name, Element}
-use Rattle.cl_picture.specs.Plain.{is_format_byte, IsPlainText, IsPlainPiece, ArePlain}
-use Rattle.cl_picture.specs.Axis.{tick_at, tick_count, tick_pieces, tick_line, axis}
-use Rattle.cl_picture.specs.Frame.{begin, end}
+use Rattle.cl_picture.specs.{declared.window.Window.Window, Pieces.{Piece, Fixed, Number, Name, Element}, Plain.{is_format_byte, IsPlainText, IsPlainPiece, ArePlain}, Axis.{tick_at, tick_count, tick_pieces, tick_line, axis}, Frame.{begin, end}}
 use Rattle.cl_picture.proofs.BarSides.{choose}
 
 -- ---- numbers

@@ -4,10 +4,7 @@ use Rattle.std.specs.Prelude.{nat_lt}
 use Rattle.std.proofs.lemmas.Bool.{cases_lt}
 use Rattle.std.proofs.lemmas.Bool.Decides.{nat_tests}
 use Rattle.std.proofs.Math.Nat.{mul-le-mul_left}
-use Rattle.cl_picture.specs.declared.window.Window.{Window}
-use Rattle.cl_picture.specs.declared.item.Item.{Item}
-use Rattle.cl_picture.specs.Window.{offset, span, x_of, low_of, high_of}
-use Rattle.cl_picture.specs.Bars.{counts}
+use Rattle.cl_picture.specs.{declared.{window.Window.Window, item.Item.Item}, Window.{offset, span, x_of, low_of, high_of}, Bars.counts}
 
 quotient_ge : (a d n : ℕ) → 0 < d → d * n ≤ a → n ≤ a / d
 quotient_ge a d n some within = elim (cases_lt (a / d) n) [

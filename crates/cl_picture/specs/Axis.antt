@@ -1,11 +1,7 @@
 -- The axis of a picture.
 use Rattle.std.specs.Prelude.{ℕ, Bool, ◌+◌, ◌-◌, ◌*◌, ◌/◌, ◌&&◌, nat_le, unwrap_or, List, [], ◌∷◌, ◌++◌, map, codes}
 use Rattle.std.specs.List.{find, flat_map, range_with_len}
-use Rattle.cl_picture.specs.declared.window.Window.{Window}
-use Rattle.cl_picture.specs.declared.window.TheConstants.{MOST_WINDOW}
-use Rattle.cl_picture.specs.declared.axis.TheConstants.{STEPS}
-use Rattle.cl_picture.specs.Pieces.{Piece, Fixed, Number, Element}
-use Rattle.cl_picture.specs.Window.{span, x_of}
+use Rattle.cl_picture.specs.{declared.{window.{Window.Window, TheConstants.MOST_WINDOW}, axis.TheConstants.STEPS}, Pieces.{Piece, Fixed, Number, Element}, Window.{span, x_of}}
 
 -- a step of an axis has a tick or more, and not too many
 abbrev pub is_step : (step : ℕ) → Bool

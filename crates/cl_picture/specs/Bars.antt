@@ -1,10 +1,7 @@
 -- The bars of a list of items.
 use Rattle.std.specs.Prelude.{ℕ, Bool, Option, Some, None, ◌&&◌, ◌==◌, nat_lt, max, if◌then◌else◌, List, [], ◌∷◌, filter}
 use Rattle.std.specs.Option.{option_to_list}
-use Rattle.cl_picture.specs.declared.window.Window.{Window}
-use Rattle.cl_picture.specs.declared.item.Item.{Item}
-use Rattle.cl_picture.specs.declared.item.Bar.{Bar}
-use Rattle.cl_picture.specs.Window.{low_of, high_of}
+use Rattle.cl_picture.specs.{declared.{window.Window.Window, item.{Item.Item, Bar.Bar}}, Window.{low_of, high_of}}
 
 -- only items that share a tick with the window count
 abbrev pub counts : Window → Item → Bool

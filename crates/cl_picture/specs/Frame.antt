@@ -1,8 +1,6 @@
 -- What frames a picture: its first lines, and its last ones.
 use Rattle.std.specs.Prelude.{ℕ, ◌/◌, List, [], ◌∷◌, ◌++◌, codes}
-use Rattle.cl_picture.specs.declared.window.Window.{Window}
-use Rattle.cl_picture.specs.declared.frame.TheConstants.{STYLE, LEGEND}
-use Rattle.cl_picture.specs.Pieces.{Fixed, Number, Element}
+use Rattle.cl_picture.specs.{declared.{window.Window.Window, frame.TheConstants.{STYLE, LEGEND}}, Pieces.{Fixed, Number, Element}}
 
 abbrev pub root_line : (height : ℕ) → Element
 root_line height =

@@ -1,11 +1,7 @@
 -- What the bars of a list of items show, and where they lie.
 use Rattle.std.specs.Prelude.{◌≡◌, ℕ, Option, Some, None, ◌+◌, ◌<◌, ◌≤◌, List, [], ◌∷◌, length, slice_get, unwrap_or, All, AllPairs, Any, Contains}
 use Rattle.std.specs.List.{flat_map}
-use Rattle.cl_picture.specs.declared.window.Window.{Window}
-use Rattle.cl_picture.specs.declared.item.Item.{Item}
-use Rattle.cl_picture.specs.declared.item.End.{End}
-use Rattle.cl_picture.specs.declared.item.Bar.{Bar}
-use Rattle.cl_picture.specs.Window.{high_of}
+use Rattle.cl_picture.specs.{declared.{window.Window.Window, item.{Item.Item, End.End, Bar.Bar}}, Window.high_of}
 
 -- ---- items
 

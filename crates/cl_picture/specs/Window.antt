@@ -1,7 +1,6 @@
 -- From ticks to lengths. A length is a tenth of a unit of the picture, which is 12,000 of them wide.
 use Rattle.std.specs.Prelude.{ℕ, Bool, ◌+◌, ◌-◌, ◌*◌, ◌/◌, ◌<◌, ◌≤◌, ◌&&◌, nat_le, min, max}
-use Rattle.cl_picture.specs.declared.window.Window.{Window}
-use Rattle.cl_picture.specs.declared.window.TheConstants.{MOST_WINDOW}
+use Rattle.cl_picture.specs.declared.window.{Window.Window, TheConstants.MOST_WINDOW}
 
 -- a window has ticks, and none of them is too great
 pub record IsPictureWindow (window : Window) : Type 0 where

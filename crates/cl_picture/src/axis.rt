@@ -2,10 +2,7 @@
 ghost use Rattle.std.specs.Prelude.{◌≡◌, ◌*◌, ◌<◌, ◌≤◌, ◌++◌, [], ◌∷◌, OnOk, OnErr, IsTrue, IfSome, nat_le};
 ghost use Rattle.std.specs.List.{find, list_all};
 ghost use Rattle.cl_text.specs.Beginnings.{PutsPart};
-ghost use Rattle.cl_picture.specs.Pieces.{spelled, print};
-ghost use Rattle.cl_picture.specs.Window.{IsPictureWindow};
-ghost use Rattle.cl_picture.specs.Axis.{is_step, axis_step, tick_at, axis_line, tick_pieces, tick_line, tick_lines, axis};
-ghost use Rattle.cl_picture.specs.Inner.Axis.{IsAxis};
+ghost use Rattle.cl_picture.specs.{Pieces.{spelled, print}, Window.IsPictureWindow, Axis.{is_step, axis_step, tick_at, axis_line, tick_pieces, tick_line, tick_lines, axis}, Inner.Axis.IsAxis};
 
 use crate::pieces::{Piece, put_line, put_pieces};
 use crate::window::{MOST_WINDOW, Window};

@@ -1,7 +1,6 @@
 //! The bars of a list of items. Times are in ticks, and the sides of bars are lengths.
 ghost use Rattle.std.specs.Prelude.{◌≡◌, None, IfOk};
-ghost use Rattle.cl_picture.specs.Window.{IsPictureWindow};
-ghost use Rattle.cl_picture.specs.Bars.{counts, bar_of, joined_bar, bars_from};
+ghost use Rattle.cl_picture.specs.{Window.IsPictureWindow, Bars.{counts, bar_of, joined_bar, bars_from}};
 
 use crate::item::{Bar, End, Item};
 use crate::window::Window;

@@ -1,8 +1,7 @@
 //! The frame of a picture: its first lines, and its last ones.
 ghost use Rattle.std.specs.Prelude.{◌≡◌, ◌++◌, [], ◌∷◌, OnOk, OnErr};
 ghost use Rattle.cl_text.specs.Beginnings.{PutsPart};
-ghost use Rattle.cl_picture.specs.Pieces.{print};
-ghost use Rattle.cl_picture.specs.Frame.{root_line, picture_title_line, style_lines, begin, shift_line, end};
+ghost use Rattle.cl_picture.specs.{Pieces.print, Frame.{root_line, picture_title_line, style_lines, begin, shift_line, end}};
 
 use crate::pieces::{Piece, put_line};
 use crate::window::Window;

@@ -1,12 +1,7 @@
 //! What bars show of a list of items.
 ghost use Rattle.std.specs.Prelude.{◌≡◌, ℕ, ◌+◌, ◌*◌, ◌^◌, ◌<◌, ◌≤◌, List, [], ◌∷◌, All, filter, length, slice_index};
 ghost use Rattle.std.specs.List.{flat_map, range_with_len};
-ghost use Rattle.cl_picture.specs.declared.axis.TheConstants.{STEPS};
-ghost use Rattle.cl_picture.specs.declared.item.Item.{Item};
-ghost use Rattle.cl_picture.specs.declared.window.Window.{Window};
-ghost use Rattle.cl_picture.specs.Bars.{bars, counts};
-ghost use Rattle.cl_picture.specs.Shown.{AreBarsOf, EndInOrder, FollowEachOther, HaveTicks, IsUnder, LieSideBySide};
-ghost use Rattle.cl_picture.specs.Window.{high_of, low_of};
+ghost use Rattle.cl_picture.specs.{declared.{axis.TheConstants.STEPS, item.Item.Item, window.Window.Window}, Bars.{bars, counts}, Shown.{AreBarsOf, EndInOrder, FollowEachOther, HaveTicks, IsUnder, LieSideBySide}, Window.{high_of, low_of}};
 
 /// If items end in order, and those that share a tick with the window are a tick long or more,
 /// their bars lie side by side: none overlaps another, each is at least one unit wide, and all lie

@@ -4,8 +4,7 @@ use Rattle.std.specs.Prelude.{slice_index, count_by}
 use Rattle.std.proofs.lemmas.Bool.{eqb-true}
 use Rattle.toml.specs.Parse.{skip_bom}
 use Rattle.toml_parser.specs.Lexical.{line_feed}
-use Rattle.cl_place.specs.Places.{has_mark, IsFront, IsPlaceIn}
-use Rattle.cl_place.specs.Positions.{is_line_feed, begins_character, BeginsLastRow, IsBehind}
+use Rattle.cl_place.specs.{Places.{has_mark, IsFront, IsPlaceIn}, Positions.{is_line_feed, begins_character, BeginsLastRow, IsBehind}}
 
 -- ---- the front
 

@@ -1,9 +1,7 @@
 -- Where something begins in the text of a document. Offsets count bytes. The tokens are those of TOML 1.1.
 use Rattle.std.specs.Prelude.{◌≡◌, ℕ, ◌≤◌, ◌-◌, ◌⊎◌, Bool, false, ◌&&◌, ◌==◌, List, length, drop, slice_index, IsSome}
 use Rattle.toml.specs.Parse.{skip_bom}
-use Rattle.toml_parser.specs.Lexical.{first, left_bracket, left_brace, is_bare}
-use Rattle.toml_parser.specs.Strings.{key, quoted}
-use Rattle.toml_parser.specs.Numbers.{unquoted}
+use Rattle.toml_parser.specs.{Lexical.{first, left_bracket, left_brace, is_bare}, Strings.{key, quoted}, Numbers.unquoted}
 
 -- a text begins with a byte order mark
 abbrev pub has_mark : List ℕ → Bool

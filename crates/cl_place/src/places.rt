@@ -1,7 +1,6 @@
 //! The place that a refusal is about, in the text of a document.
 ghost use Rattle.std.specs.Prelude.{◌≡◌, ◌≤◌, length, true, is_ok, IfOk};
-ghost use Rattle.toml_parser.specs.Lexical.{is_bare};
-ghost use Rattle.toml_parser.specs.Strings.{key};
+ghost use Rattle.toml_parser.specs.{Lexical.is_bare, Strings.key};
 ghost use Rattle.cl_place.specs.Places.{BeginsItem, Begins, StandsApart, IsPlaceIn};
 
 use crate::mark::mark_length;

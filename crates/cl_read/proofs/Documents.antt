@@ -2,14 +2,8 @@
 use Rattle.std.proofs.Common.{◌≡◌, ℕ, ◌<◌, ◌≤◌, true, false, leb, List, [], ◌∷◌, length, map, Some, refl, ap, arith}
 use Rattle.std.proofs.lemmas.Bool.{le-leb, lt-leb}
 use Rattle.std.proofs.lemmas.List.{append-nil, length-map}
-use Rattle.toml.specs.declared.value.Value.{Value}
-use Rattle.toml.specs.View.{view, items_view}
-use Rattle.cl_model.specs.declared.place.Place.{Place}
-use Rattle.cl_model.specs.declared.refusal.Code.TheVariants.{M10}
-use Rattle.cl_model.specs.Refusals.{first}
-use Rattle.cl_model.specs.Reading.Checks.{Check, members_of, an_array}
-use Rattle.cl_model.specs.Refusals.{each_from}
-use Rattle.toml.specs.Data.{array}
+use Rattle.toml.specs.{declared.value.Value.Value, View.{view, items_view}, Data.array}
+use Rattle.cl_model.specs.{declared.{place.Place.Place, refusal.Code.TheVariants.M10}, Refusals.{first, each_from}, Reading.Checks.{Check, members_of, an_array}}
 
 pub members_of-items : (vs : List Value) → members_of (items_view vs) ≡ map view vs
 members_of-items [] = refl

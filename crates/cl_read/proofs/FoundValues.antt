@@ -12,13 +12,9 @@ use Rattle.std.specs.List.{list_any, position, position_or_len}
 use Rattle.std.specs.Option.{option_or}
 use Rattle.std.specs.Ordering.{nat_cmp, match_ordering}
 use Rattle.std.specs.Prelude.{is_some, slice_get}
-use Rattle.toml.specs.Data.{Data, Members, no_members, member}
-use Rattle.toml.specs.View.{view, members_view}
-use Rattle.toml.specs.declared.value.Value.{Value}
-use Rattle.cl_model.specs.declared.place.Key.{Key}
+use Rattle.toml.specs.{Data.{Data, Members, no_members, member}, View.{view, members_view}, declared.value.Value.Value}
+use Rattle.cl_model.specs.{declared.place.Key.Key, Place.key_text, Reading.Checks.{value_at, has_only}}
 use Rattle.cl_model.specs.declared.place.Key.TheVariants as key
-use Rattle.cl_model.specs.Place.{key_text}
-use Rattle.cl_model.specs.Reading.Checks.{value_at, has_only}
 use Rattle.cl_model.proofs.NamePlaces.{found_within}
 use Rattle.cl_read.specs.Inner.Fields.{is_word, are_apart, data_of, first_of, AreValuesAt}
 

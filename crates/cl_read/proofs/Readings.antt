@@ -2,16 +2,9 @@
 use Rattle.std.proofs.Common.{◌≡◌, ℕ, List, Some, Result, Ok, Err, sym, ap, subst}
 use Rattle.std.specs.Prelude.{IfOk}
 use Rattle.toml.specs.Data.{Members}
-use Rattle.cl_model.specs.declared.model.SystemModel.{SystemModel}
-use Rattle.cl_model.specs.declared.model_fault.ModelFault.{ModelFault}
-use Rattle.cl_model.specs.declared.model_fault.ModelFault.TheVariants.{Refused, NoMemory}
-use Rattle.cl_model.specs.declared.refusal.Refusal.{Refusal}
-use Rattle.cl_model.specs.Answers.{Answers, Gives}
-use Rattle.cl_model.specs.AreNamed.{AreNamed}
-use Rattle.cl_model.specs.Ranges.{IsInRange}
-use Rattle.cl_model.specs.Reading.{document_of, model_checks, model_meaning, model_in, model_of}
-use Rattle.cl_model.proofs.FirstRefusals.{gives_answer}
-use Rattle.cl_model.proofs.ReadModels.{model_in_range, model_named}
+use Rattle.cl_model.specs.{declared.{model.SystemModel.SystemModel, model_fault.ModelFault.{ModelFault, TheVariants.{Refused, NoMemory}}, refusal.Refusal.Refusal}, Answers.{Answers, Gives}, AreNamed.AreNamed, Ranges.IsInRange, Reading.{document_of, model_checks, model_meaning, model_in}}
+use Rattle.cl_model.specs.Reading.{model_of}
+use Rattle.cl_model.proofs.{FirstRefusals.gives_answer, ReadModels.{model_in_range, model_named}}
 use Rattle.cl_read.specs.Inner.Documents.{IsDocument}
 
 -- no document

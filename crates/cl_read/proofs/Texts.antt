@@ -2,8 +2,7 @@
 use Rattle.std.proofs.Common.{◌≡◌, ℕ, Bool, true, false, cond, List, Option, None, refl}
 use Rattle.std.proofs.lemmas.Str.{IsUtf8-from_is_utf8}
 use Rattle.std.specs.Str.{IsUtf8, is_utf8}
-use Rattle.toml.specs.Data.{Members}
-use Rattle.toml.specs.Parse.{parse_document}
+use Rattle.toml.specs.{Data.Members, Parse.parse_document}
 use Rattle.cl_model.specs.Reading.{document_of}
 
 chosen : (t : Bool) (found : Option Members) → (t ≡ true → ⊥) → cond t found None ≡ None

@@ -1,13 +1,7 @@
 //! Arrays of a document, and what they may hold.
 ghost use Rattle.std.specs.Prelude.{◌≡◌, ℕ, ◌≤◌, List as Items, [], map, option_map, length};
-ghost use Rattle.toml.specs.Data.{Data};
-ghost use Rattle.toml.specs.View.{view};
-ghost use Rattle.cl_model.specs.declared.place.Place.{Place as Spot};
-ghost use Rattle.cl_model.specs.declared.refusal.Refusal.{Refusal};
-ghost use Rattle.cl_model.specs.Reading.Checks.{an_array, found_or};
-ghost use Rattle.cl_model.specs.Refusals.{each_from};
-ghost use Rattle.cl_model.specs.Reading.Meanings.{list_of};
-ghost use Rattle.cl_model.specs.Answers.{Answers};
+ghost use Rattle.toml.specs.{Data.Data, View.view};
+ghost use Rattle.cl_model.specs.{declared.{place.Place.Place as Spot, refusal.Refusal.Refusal}, Reading.{Checks.{an_array, found_or}, Meanings.list_of}, Refusals.each_from, Answers.Answers};
 
 use cl_model::{Code, List, ModelFault, Place};
 use std::alloc::Global;

@@ -1,19 +1,10 @@
 //! The whole document.
 ghost use Rattle.std.specs.Prelude.{◌≡◌, ◌≤◌, [], map, IfOk};
-ghost use Rattle.toml.specs.Parse.{parse_document};
-ghost use Rattle.toml.specs.View.{table_view};
+ghost use Rattle.toml.specs.{Parse.parse_document, View.table_view};
 ghost use Rattle.cl_model.specs.declared.place.Key.TheVariants as key;
-ghost use Rattle.cl_model.specs.declared.refusal.Code.TheVariants.{M1, M2, M3};
-ghost use Rattle.cl_model.specs.Place.{section_place, top, at_key};
-ghost use Rattle.cl_model.specs.Refusals.{unless, in_order};
-ghost use Rattle.cl_model.specs.Reading.Checks.{an_array, found_or, value_at};
-ghost use Rattle.cl_model.specs.Reading.Meanings.{list_of};
-ghost use Rattle.cl_model.specs.Reading.{is_format, is_version, version_in, section_checks, sections, model_checks, model_meaning, document_of, model_of};
-ghost use Rattle.cl_model.specs.AreNamed.{AreNamed};
-ghost use Rattle.cl_model.specs.Ranges.{IsInRange};
-ghost use Rattle.cl_model.specs.Answers.{Answers, Gives};
-ghost use Rattle.cl_read.specs.Inner.Documents.{IsDocument};
-ghost use Rattle.cl_read.specs.Inner.Fields.{AreFieldsFound};
+ghost use Rattle.cl_model.specs.{declared.refusal.Code.TheVariants.{M1, M2, M3}, Place.{section_place, top, at_key}, Refusals.{unless, in_order}, Reading.{Checks.{an_array, found_or, value_at}, Meanings.list_of, is_format, is_version, version_in, section_checks, sections, model_checks}};
+ghost use Rattle.cl_model.specs.{Reading.{model_meaning, document_of, model_of}, AreNamed.AreNamed, Ranges.IsInRange, Answers.{Answers, Gives}};
+ghost use Rattle.cl_read.specs.Inner.{Documents.IsDocument, Fields.AreFieldsFound};
 
 use crate::arrays::{Member, array_or_none};
 use crate::keys::{Fields, value_at};

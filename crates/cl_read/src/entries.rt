@@ -1,13 +1,9 @@
 //! The tables of a document, one reader for each.
 ghost use Rattle.std.specs.Prelude.{◌≤◌};
 ghost use Rattle.toml.specs.View.{table_view};
-ghost use Rattle.cl_model.specs.declared.limits.TheConstants.{MOST_RUNNABLES};
+ghost use Rattle.cl_model.specs.{declared.limits.TheConstants.MOST_RUNNABLES, Place.{at_item, at_sub, at_spot}, Reading.{Checks.{a_name, a_table_of, fields_checks, field_checks, optional, names}, Meanings.{text_in, table_of, names_at, tables_at}, Tables.{core_fields, core_meaning}}};
+ghost use Rattle.cl_model.specs.{Reading.Tables.{label_fields, label_meaning, runnable_fields, runnables, runnable_meaning, task_fields, task_meaning, chain_fields, chain_meaning, requirement_fields, requirement_meaning}, Answers.Answers};
 ghost use Rattle.cl_model.specs.declared.place.Key.TheVariants as key;
-ghost use Rattle.cl_model.specs.Place.{at_item, at_sub, at_spot};
-ghost use Rattle.cl_model.specs.Reading.Checks.{a_name, a_table_of, fields_checks, field_checks, optional, names};
-ghost use Rattle.cl_model.specs.Reading.Meanings.{text_in, table_of, names_at, tables_at};
-ghost use Rattle.cl_model.specs.Reading.Tables.{core_fields, core_meaning, label_fields, label_meaning, runnable_fields, runnables, runnable_meaning, task_fields, task_meaning, chain_fields, chain_meaning, requirement_fields, requirement_meaning};
-ghost use Rattle.cl_model.specs.Answers.{Answers};
 ghost use Rattle.cl_read.specs.Inner.Fields.{AreFieldsFound};
 
 use crate::arrays::{Member, array_or_none};

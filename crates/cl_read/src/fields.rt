@@ -1,13 +1,8 @@
 //! The fields of a table: the values at its keys. M5 refuses a table without a key that it must
 //! have.
 ghost use Rattle.toml.specs.View.{table_view};
-ghost use Rattle.cl_model.specs.declared.task.AccessKind.TheVariants.{Explicit};
-ghost use Rattle.cl_model.specs.declared.chain.LengthKind.TheVariants.{Reaction};
-ghost use Rattle.cl_model.specs.declared.chain.RequirementKind.TheVariants.{Length};
-ghost use Rattle.cl_model.specs.Reading.Checks.{a_name, a_number, a_boolean, a_word, required, optional, field_checks};
-ghost use Rattle.cl_model.specs.Reading.Meanings.{text_at, number_at, number_or, number_if, is_set, word_at};
-ghost use Rattle.cl_model.specs.Reading.Tables.{access_words, requirement_words};
-ghost use Rattle.cl_model.specs.Answers.{Answers};
+ghost use Rattle.cl_model.specs.{declared.{task.AccessKind.TheVariants.Explicit, chain.{LengthKind.TheVariants.Reaction, RequirementKind.TheVariants.Length}}, Reading.{Checks.{a_name, a_number, a_boolean, a_word, required, optional, field_checks}, Meanings.{text_at, number_at}}};
+ghost use Rattle.cl_model.specs.{Reading.{Meanings.{number_or, number_if, is_set, word_at}, Tables.{access_words, requirement_words}}, Answers.Answers};
 ghost use Rattle.cl_read.specs.Inner.Fields.{AreFieldsFound};
 
 use crate::keys::Fields;

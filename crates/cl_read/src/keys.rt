@@ -1,10 +1,7 @@
 //! The keys of a table.
 ghost use Rattle.std.specs.Prelude.{◌≡◌, ◌≤◌, length, option_map, position, slice_get, Some, IsTrue, IfOk, IfSome};
 ghost use Rattle.toml.specs.View.{view, table_view};
-ghost use Rattle.cl_model.specs.declared.refusal.Code.TheVariants.{M4};
-ghost use Rattle.cl_model.specs.Refusals.{unless};
-ghost use Rattle.cl_model.specs.Reading.Checks.{value_at, has_only};
-ghost use Rattle.cl_model.specs.Answers.{Passes};
+ghost use Rattle.cl_model.specs.{declared.refusal.Code.TheVariants.M4, Refusals.unless, Reading.Checks.{value_at, has_only}, Answers.Passes};
 ghost use Rattle.cl_read.specs.Inner.Fields.{is_word, are_apart, AreValuesAt, AreNone, AreFieldsFound, data_of, first_of};
 ghost use Rattle.cl_read.specs.declared.keys.TheConstants as constants;
 

@@ -1,14 +1,9 @@
 //! Stimuli. The keys of one depend on its kind, and the kinds on the version of the file.
 ghost use Rattle.std.specs.Prelude.{Some, [], ◌∷◌, unwrap_or};
-ghost use Rattle.toml.specs.Data.{string};
-ghost use Rattle.toml.specs.View.{table_view};
+ghost use Rattle.toml.specs.{Data.string, View.table_view};
 ghost use Rattle.cl_model.specs.declared.place.Key.TheVariants as key;
-ghost use Rattle.cl_model.specs.Place.{at_key, at_item};
-ghost use Rattle.cl_model.specs.Refusals.{in_order};
-ghost use Rattle.cl_model.specs.Reading.Checks.{a_word, a_table, required, field_checks, meaning_of};
-ghost use Rattle.cl_model.specs.Reading.Meanings.{table_of, word_if, word_at};
-ghost use Rattle.cl_model.specs.Reading.Tables.{stimulus_forms, periodic_form, sporadic_form, burst_form, form_checks, stimulus_entry_checks, stimulus_meaning};
-ghost use Rattle.cl_model.specs.Answers.{Answers};
+ghost use Rattle.cl_model.specs.{Place.{at_key, at_item}, Refusals.in_order, Reading.{Checks.{a_word, a_table, required, field_checks, meaning_of}, Meanings.{table_of, word_if, word_at}, Tables.{stimulus_forms, periodic_form, sporadic_form, burst_form, form_checks}}};
+ghost use Rattle.cl_model.specs.{Reading.Tables.{stimulus_entry_checks, stimulus_meaning}, Answers.Answers};
 
 use crate::arrays::Member;
 use crate::fields;

@@ -1,16 +1,8 @@
 //! Single values of a document: tables, names, numbers, booleans and words.
 ghost use Rattle.std.specs.Prelude.{◌≡◌, unwrap_or, IfOk, IfErr, List};
-ghost use Rattle.toml.specs.Data.{Members, table};
-ghost use Rattle.toml.specs.View.{view, table_view};
-ghost use Rattle.cl_model.specs.declared.place.Place.{Place as Spot};
-ghost use Rattle.cl_model.specs.declared.refusal.Refusal.{Refusal};
-ghost use Rattle.cl_model.specs.declared.task.AccessKind.TheVariants.{Explicit};
-ghost use Rattle.cl_model.specs.declared.chain.LengthKind.TheVariants.{Reaction};
-ghost use Rattle.cl_model.specs.declared.chain.RequirementKind.TheVariants.{Length};
-ghost use Rattle.cl_model.specs.Reading.Checks.{a_table, a_name, a_number, a_boolean, a_word, meaning_of};
-ghost use Rattle.cl_model.specs.Reading.Meanings.{text_in, number_in, boolean_of};
-ghost use Rattle.cl_model.specs.Reading.Tables.{access_words, requirement_words};
-ghost use Rattle.cl_model.specs.Answers.{Answers, IsFaultOf};
+ghost use Rattle.toml.specs.{Data.{Members, table}, View.{view, table_view}};
+ghost use Rattle.cl_model.specs.{declared.{place.Place.Place as Spot, refusal.Refusal.Refusal, task.AccessKind.TheVariants.Explicit, chain.{LengthKind.TheVariants.Reaction, RequirementKind.TheVariants.Length}}, Reading.Checks.{a_table, a_name, a_number, a_boolean, a_word, meaning_of}};
+ghost use Rattle.cl_model.specs.{Reading.{Meanings.{text_in, number_in, boolean_of}, Tables.{access_words, requirement_words}}, Answers.{Answers, IsFaultOf}};
 
 use cl_model::{AccessKind, Code, ModelFault, Name, Place, RequirementKind};
 use toml::{Table, Value};

@@ -1,15 +1,11 @@
 -- The lines of a chain, by the answer and the measured chains that are found at its place.
 use Rattle.std.proofs.Common.{◌≡◌, ℕ, ◌<◌, List, length, map, sym, ap, subst, ◌∙◌}
-use Rattle.cl_model.specs.declared.model.SystemModel.{SystemModel}
-use Rattle.cl_model.specs.Groups.{groups_at}
+use Rattle.cl_model.specs.{declared.model.SystemModel.SystemModel, Groups.groups_at}
 use Rattle.cl_runs.specs.Measured.{Measured}
-use Rattle.cl_analyse.specs.declared.findings.ChainAnswer.{ChainAnswer}
-use Rattle.cl_analyse.specs.declared.findings.Findings.{Findings}
-use Rattle.cl_analyse.specs.ChainAnswers.{chain_answer_at}
+use Rattle.cl_analyse.specs.{declared.findings.{ChainAnswer.ChainAnswer, Findings.Findings}, ChainAnswers.chain_answer_at}
 use Rattle.cl_chain.specs.declared.job_chain.Measured as own
 use Rattle.cl_chain.specs.JobChains.{measured_of}
-use Rattle.cl_replay.specs.Margins.{ChainHasMargins, HaveMargins}
-use Rattle.cl_replay.specs.Replay.{measured_at, measured_lines, measured_chain_lines}
+use Rattle.cl_replay.specs.{Margins.{ChainHasMargins, HaveMargins}, Replay.{measured_at, measured_lines, measured_chain_lines}}
 
 module _ (model : SystemModel) (findings : Findings) (measured : List own.Measured) (i : ℕ) (answer : ChainAnswer) (found : own.Measured)
     (is_answer : answer ≡ chain_answer_at findings.chains i) (is_measured : measured_of found ≡ measured_at (map measured_of measured) i) where

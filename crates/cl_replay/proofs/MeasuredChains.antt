@@ -1,15 +1,10 @@
 -- What is measured of the chains of a model, one chain after the other.
-use Rattle.std.proofs.Common.{◌≡◌, ℕ, ◌+◌, ◌<◌, List, [], ◌∷◌, ◌++◌, length, get_or, map, refl, sym, ap, subst, ◌∙◌, arith, below_more, length-append}
+use Rattle.std.proofs.Common.{◌≡◌, ℕ, ◌+◌, ◌<◌, List, [], ◌∷◌, ◌++◌, length, get_or, map, sym, ap, subst, ◌∙◌, arith, below_more, length-append}
 use Rattle.std.proofs.lemmas.List.{ext_get_or, get_or-map, get_or_append_left, map-append}
 use Rattle.std.proofs.Math.Seq.{get_or-append_seam}
-use Rattle.cl_model.specs.declared.model.SystemModel.{SystemModel}
-use Rattle.cl_model.specs.Groups.{groups_at}
-use Rattle.cl_runs.specs.Run.{Run}
-use Rattle.cl_runs.specs.SystemOf.{system_of}
-use Rattle.cl_runs.specs.RunChains.{run_moments}
-use Rattle.cl_runs.specs.Measured.{Measured, IsMeasured}
-use Rattle.cl_runs.proofs.MeasuredOnce.{measured_once}
-use Rattle.cl_runs.proofs.OrderedMoments.{run_unique}
+use Rattle.cl_model.specs.{declared.model.SystemModel.SystemModel, Groups.groups_at}
+use Rattle.cl_runs.specs.{Run.Run, SystemOf.system_of, RunChains.run_moments, Measured.{Measured, IsMeasured}}
+use Rattle.cl_runs.proofs.{MeasuredOnce.measured_once, OrderedMoments.run_unique}
 use Rattle.cl_chain.specs.declared.job_chain.Measured as own
 use Rattle.cl_chain.specs.JobChains.{measured_of}
 use Rattle.cl_replay.specs.Replay.{nothing_measured, measured_at, AreMeasured}
@@ -22,9 +17,6 @@ IsMeasuredOf model run chain measured = IsMeasured (run_moments (system_of model
 pub record AreFirstMeasured (model : SystemModel) (run : Run) (n : ℕ) (measured : List Measured) : Type 0 where
   pub count : length measured ≡ n
   pub each : (chain : ℕ) → chain < n → IsMeasuredOf model run chain (measured_at measured chain)
-
-pub none_measured : (model : SystemModel) (run : Run) → AreFirstMeasured model run 0 []
-none_measured model run = record { count = refl; each = λ chain within. absurd (omega (arith, within)) }
 
 more : (model : SystemModel) (run : Run) (n : ℕ) (old new : List Measured) (next : Measured) → AreFirstMeasured model run n old
     → IsMeasuredOf model run n next → new ≡ old ++ next ∷ [] → AreFirstMeasured model run (n + 1) new

@@ -1,31 +1,12 @@
 -- No margin is negative, since the bounds that are found are safe.
 use Rattle.std.proofs.Common.{◌≡◌, ℕ, ◌+◌, ◌-◌, ◌<◌, ◌≤◌, List, length, Option, Some, None, refl, subst, arith}
-use Rattle.cl_model.specs.declared.model.SystemModel.{SystemModel}
-use Rattle.cl_model.specs.declared.chain.LengthKind.{LengthKind}
-use Rattle.cl_model.specs.declared.chain.LengthKind.TheVariants.{Reaction, Age, Reduced}
-use Rattle.cl_model.specs.ByNumber.{chain_at}
-use Rattle.cl_model.specs.Groups.{groups_of, groups_at, steps_of}
-use Rattle.cl_model.specs.Validity.{IsValid}
-use Rattle.cl_runs.specs.Run.{Run}
-use Rattle.cl_runs.specs.SystemOf.{system_of}
-use Rattle.cl_runs.specs.Legal.{IsLegal}
-use Rattle.cl_runs.specs.Chains.{JobChain, chain_length}
-use Rattle.cl_runs.specs.RunChains.{run_moments}
-use Rattle.cl_runs.specs.Measured.{Measured, IsMeasuredBy, IsMeasured}
-use Rattle.cl_runs.proofs.ChainsOfRuns.{run_forward_ordered, run_age_ordered, run_reduced_ordered}
-use Rattle.cl_runs.proofs.ModelSystem.{system_sound}
-use Rattle.cl_runs.specs.Requirements.{IsChainOfKind}
-use Rattle.cl_bound.specs.Bounds.{Lengths}
-use Rattle.cl_bound.specs.Promises.{AreAtLeast}
-use Rattle.cl_analyse.specs.declared.findings.ChainAnswer.{ChainAnswer}
-use Rattle.cl_analyse.specs.declared.findings.ChainAnswer.TheVariants.{Bounds, Late}
-use Rattle.cl_analyse.specs.declared.findings.Findings.{Findings}
-use Rattle.cl_analyse.specs.ChainAnswers.{chain_answer_at}
-use Rattle.cl_analyse.specs.Findings.{AreFindings}
-use Rattle.cl_analyse.specs.Verdicts.{bound_of_kind, bound_value}
+use Rattle.cl_model.specs.{declared.{model.SystemModel.SystemModel, chain.LengthKind.{LengthKind, TheVariants.{Reaction, Age, Reduced}}}, ByNumber.chain_at, Groups.{groups_of, groups_at, steps_of}, Validity.IsValid}
+use Rattle.cl_runs.specs.{Run.Run, SystemOf.system_of, Legal.IsLegal, Chains.{JobChain, chain_length}, RunChains.run_moments, Measured.{Measured, IsMeasuredBy, IsMeasured}, Requirements.IsChainOfKind}
+use Rattle.cl_runs.proofs.{ChainsOfRuns.{run_forward_ordered, run_age_ordered, run_reduced_ordered}, ModelSystem.system_sound}
+use Rattle.cl_bound.specs.{Bounds.Lengths, Promises.AreAtLeast}
+use Rattle.cl_analyse.specs.{declared.findings.{ChainAnswer.{ChainAnswer, TheVariants.{Bounds, Late}}, Findings.Findings}, ChainAnswers.chain_answer_at, Findings.AreFindings, Verdicts.{bound_of_kind, bound_value}}
 use Rattle.cl_analyse.proofs.SafeFindings.{findings_safe}
-use Rattle.cl_replay.specs.Margins.{HasMargin, LongestHasMargin, HaveMargins, IsReplayWithMargins}
-use Rattle.cl_replay.specs.Replay.{AreMeasured, measured_at, longest_of_kind, IsReplayOf}
+use Rattle.cl_replay.specs.{Margins.{HasMargin, LongestHasMargin, HaveMargins, IsReplayWithMargins}, Replay.{AreMeasured, measured_at, longest_of_kind, IsReplayOf}}
 
 some_same : (m n : ℕ) → Some m ≡ Some n → m ≡ n
 some_same m n is = cc

@@ -2,18 +2,12 @@
 use Rattle.std.proofs.Common.{ℕ, ◌<◌, inl, inr, List, length, map, refl, subst, sym, arith}
 use Rattle.std.specs.List.{range_with_len}
 use Rattle.std.proofs.lemmas.List.FromFn.{get_or-map-range_with_len, length-map-range_with_len}
-use Rattle.cl_model.specs.declared.model.SystemModel.{SystemModel}
-use Rattle.cl_model.specs.Groups.{groups_at}
-use Rattle.cl_model.specs.Validity.{IsValid}
+use Rattle.cl_model.specs.{declared.model.SystemModel.SystemModel, Groups.groups_at, Validity.IsValid}
 use Rattle.cl_model.proofs.GroupFacts.{groups_at_some}
-use Rattle.cl_runs.specs.Run.{Run}
-use Rattle.cl_runs.specs.RunChains.{run_moments}
-use Rattle.cl_runs.specs.SystemOf.{system_of}
-use Rattle.cl_runs.specs.Measured.{Measured, IsMeasured}
+use Rattle.cl_runs.specs.{Run.Run, RunChains.run_moments, SystemOf.system_of, Measured.{Measured, IsMeasured}}
 use Rattle.cl_analyse.proofs.SomeFindings.{some_findings}
 use Rattle.cl_replay.specs.Replay.{nothing_measured, AreMeasured, IsReplayOf, replay_text}
-use Rattle.cl_chain.proofs.DecidedMoments.{Decided, lt_or_not}
-use Rattle.cl_chain.proofs.SomeMeasured.{run_measured}
+use Rattle.cl_chain.proofs.{DecidedMoments.{Decided, lt_or_not}, SomeMeasured.run_measured}
 
 module _ (model : SystemModel) (valid : IsValid model) (run : Run) where
   measured_of : (chain : ℕ) → Decided (0 < length (groups_at model chain)) → Measured

@@ -1,16 +1,8 @@
 -- The margins of a replay. Times are in ticks.
 use Rattle.std.specs.Prelude.{◌≡◌, ℕ, ◌+◌, ◌<◌, ◌≤◌, Option, Some, None, List, length}
-use Rattle.cl_model.specs.declared.model.SystemModel.{SystemModel}
-use Rattle.cl_model.specs.declared.chain.LengthKind.{LengthKind}
-use Rattle.cl_model.specs.declared.group.Group.{Group}
-use Rattle.cl_model.specs.Groups.{groups_at}
-use Rattle.cl_runs.specs.Chains.{JobChain, chain_length}
-use Rattle.cl_runs.specs.Run.{Run}
-use Rattle.cl_runs.specs.Measured.{Measured}
-use Rattle.cl_analyse.specs.declared.findings.ChainAnswer.{ChainAnswer}
-use Rattle.cl_analyse.specs.declared.findings.Findings.{Findings}
-use Rattle.cl_analyse.specs.ChainAnswers.{chain_answer_at}
-use Rattle.cl_analyse.specs.Verdicts.{bound_value}
+use Rattle.cl_model.specs.{declared.{model.SystemModel.SystemModel, chain.LengthKind.LengthKind, group.Group.Group}, Groups.groups_at}
+use Rattle.cl_runs.specs.{Chains.{JobChain, chain_length}, Run.Run, Measured.Measured}
+use Rattle.cl_analyse.specs.{declared.findings.{ChainAnswer.ChainAnswer, Findings.Findings}, ChainAnswers.chain_answer_at, Verdicts.bound_value}
 use Rattle.cl_replay.specs.Replay.{measured_at, longest_of_kind, margin, IsReplayOf}
 
 -- A measured chain has a job for each group and ends no earlier than it begins. It is at most as long as the bound,

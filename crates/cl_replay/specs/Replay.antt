@@ -3,22 +3,9 @@
 use Rattle.std.specs.Prelude.{◌≡◌, ℕ, ◌-◌, ◌<◌, Option, Some, None, List, ◌++◌, length, slice_index_or, codes, decimal}
 use Rattle.std.specs.List.{flat_map, range_with_len}
 use Rattle.cl_text.specs.Line.{line}
-use Rattle.cl_model.specs.declared.model.SystemModel.{SystemModel}
-use Rattle.cl_model.specs.declared.chain.LengthKind.{LengthKind}
-use Rattle.cl_model.specs.declared.chain.LengthKind.TheVariants.{Reaction, Age, Reduced}
-use Rattle.cl_model.specs.Kinds.{length_word}
-use Rattle.cl_model.specs.ByNumber.{chain_at}
-use Rattle.cl_model.specs.Groups.{groups_at}
-use Rattle.cl_runs.specs.Run.{Run}
-use Rattle.cl_runs.specs.SystemOf.{system_of}
-use Rattle.cl_runs.specs.Chains.{JobChain, chain_length}
-use Rattle.cl_runs.specs.RunChains.{run_moments}
-use Rattle.cl_runs.specs.Measured.{Measured, IsMeasured}
-use Rattle.cl_analyse.specs.declared.findings.ChainAnswer.{ChainAnswer}
-use Rattle.cl_analyse.specs.declared.findings.Findings.{Findings}
-use Rattle.cl_analyse.specs.ChainAnswers.{chain_answer_at}
-use Rattle.cl_analyse.specs.Verdicts.{bound_value}
-use Rattle.cl_analyse.specs.Findings.{AreFindings}
+use Rattle.cl_model.specs.{declared.{model.SystemModel.SystemModel, chain.LengthKind.{LengthKind, TheVariants.{Reaction, Age, Reduced}}}, Kinds.length_word, ByNumber.chain_at, Groups.groups_at}
+use Rattle.cl_runs.specs.{Run.Run, SystemOf.system_of, Chains.{JobChain, chain_length}, RunChains.run_moments, Measured.{Measured, IsMeasured}}
+use Rattle.cl_analyse.specs.{declared.findings.{ChainAnswer.ChainAnswer, Findings.Findings}, ChainAnswers.chain_answer_at, Verdicts.bound_value, Findings.AreFindings}
 use Rattle.cl_report.specs.Report.{jobs_words}
 
 -- ---- what is measured

@@ -1,16 +1,10 @@
 //! A run of a valid model has exactly one replay, and where the run is legal no margin of it is
 //! negative.
 ghost use Rattle.std.specs.Prelude.{◌≡◌, ℕ, List};
-ghost use Rattle.cl_model.specs.declared.model.SystemModel.{SystemModel};
-ghost use Rattle.cl_model.specs.Validity.{IsValid};
-ghost use Rattle.cl_runs.specs.Run.{Run};
-ghost use Rattle.cl_runs.specs.SystemOf.{system_of};
-ghost use Rattle.cl_runs.specs.Legal.{IsLegal};
-ghost use Rattle.cl_runs.specs.Measured.{Measured};
-ghost use Rattle.cl_analyse.specs.declared.findings.Findings.{Findings};
-ghost use Rattle.cl_analyse.specs.Findings.{AreFindings};
-ghost use Rattle.cl_replay.specs.Margins.{HaveMargins, IsReplayWithMargins};
-ghost use Rattle.cl_replay.specs.Replay.{AreMeasured, IsReplayOf};
+ghost use Rattle.cl_model.specs.{declared.model.SystemModel.SystemModel, Validity.IsValid};
+ghost use Rattle.cl_runs.specs.{Run.Run, SystemOf.system_of, Legal.IsLegal, Measured.Measured};
+ghost use Rattle.cl_analyse.specs.{declared.findings.Findings.Findings, Findings.AreFindings};
+ghost use Rattle.cl_replay.specs.{Margins.{HaveMargins, IsReplayWithMargins}, Replay.{AreMeasured, IsReplayOf}};
 
 /// Two texts that are the replay of one run of a model are equal.
 pub fn replays_are_unique()

@@ -4,8 +4,7 @@ ghost use Rattle.std.specs.List.{flat_map, range_with_len};
 ghost use Rattle.cl_model.specs.Groups.{groups_at};
 ghost use Rattle.cl_analyse.specs.Findings.{AreFindings};
 ghost use Rattle.cl_chain.specs.JobChains.{job_chain_of, option_of, measured_of};
-ghost use Rattle.cl_replay.specs.Margins.{HasMargin, LongestHasMargin, ChainHasMargins, HaveMargins};
-ghost use Rattle.cl_replay.specs.Replay.{bound_words, margin_words, longest_words, found_words, kind_line, measured_lines, measured_chain_lines};
+ghost use Rattle.cl_replay.specs.{Margins.{HasMargin, LongestHasMargin, ChainHasMargins, HaveMargins}, Replay.{bound_words, margin_words, longest_words, found_words, kind_line, measured_lines, measured_chain_lines}};
 
 use crate::pieces::{count_of_kind, longest_of_kind};
 use cl_analyse::{ChainAnswer, Findings};

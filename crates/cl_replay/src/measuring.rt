@@ -1,12 +1,9 @@
 //! What is measured of all chains of a model.
 ghost use Rattle.std.specs.Prelude.{map, IfOk};
-ghost use Rattle.cl_runs.specs.SystemOf.{system_of};
-ghost use Rattle.cl_runs.specs.Legal.{IsLegal};
-ghost use Rattle.cl_analyse.specs.declared.findings.Findings.{Findings};
-ghost use Rattle.cl_analyse.specs.Findings.{AreFindings};
+ghost use Rattle.cl_runs.specs.{SystemOf.system_of, Legal.IsLegal};
+ghost use Rattle.cl_analyse.specs.{declared.findings.Findings.Findings, Findings.AreFindings};
 ghost use Rattle.cl_chain.specs.JobChains.{measured_of};
-ghost use Rattle.cl_replay.specs.Margins.{HaveMargins};
-ghost use Rattle.cl_replay.specs.Replay.{AreMeasured};
+ghost use Rattle.cl_replay.specs.{Margins.HaveMargins, Replay.AreMeasured};
 
 use cl_chain::{Measured, measure_apart};
 use cl_check::tasks_apart;

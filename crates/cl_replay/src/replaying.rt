@@ -2,10 +2,8 @@
 ghost use Rattle.std.specs.Prelude.{◌≡◌, length, map, IfOk};
 ghost use Rattle.cl_analyse.specs.Findings.{AreFindings};
 ghost use Rattle.cl_chain.specs.JobChains.{measured_of};
-ghost use Rattle.cl_replay.specs.Margins.{HaveMargins, IsReplayWithMargins};
-ghost use Rattle.cl_replay.specs.Replay.{replay_text, IsReplayOf};
-ghost use Rattle.cl_runs.specs.Legal.{IsLegal};
-ghost use Rattle.cl_runs.specs.SystemOf.{system_of};
+ghost use Rattle.cl_replay.specs.{Margins.{HaveMargins, IsReplayWithMargins}, Replay.{replay_text, IsReplayOf}};
+ghost use Rattle.cl_runs.specs.{Legal.IsLegal, SystemOf.system_of};
 
 use crate::lines::put_chains;
 use crate::measuring::measure_all;

@@ -2,29 +2,16 @@
 use Rattle.std.proofs.Common.{◌≡◌, ℕ, ◌<◌, List, [], ◌∷◌, ◌++◌, length, get_or, map, None, sym, ap, ◌∙◌, codes}
 use Rattle.std.proofs.lemmas.List.{get_or_default, append_assoc}
 use Rattle.std.proofs.Math.ListN.{length-map}
-use Rattle.cl_model.specs.declared.model.SystemModel.{SystemModel}
-use Rattle.cl_model.specs.declared.chain.RequirementDef.{RequirementDef}
-use Rattle.cl_model.specs.Validity.{IsValid}
-use Rattle.cl_model.specs.declared.group.Group.{Group}
-use Rattle.cl_runs.specs.TaskTiming.{System}
-use Rattle.cl_runs.specs.SystemOf.{system_of, timing_of}
-use Rattle.cl_runs.specs.Requirements.{no_requirement, requirement_at}
-use Rattle.cl_bound.specs.declared.answer.TaskAnswer.{TaskAnswer}
+use Rattle.cl_model.specs.{declared.{model.SystemModel.SystemModel, chain.RequirementDef.RequirementDef, group.Group.Group}, Validity.IsValid, Kinds.requirement_word}
+use Rattle.cl_runs.specs.{TaskTiming.System, SystemOf.{system_of, timing_of}, Requirements.{no_requirement, requirement_at}}
+use Rattle.cl_bound.specs.{declared.answer.TaskAnswer.TaskAnswer, Answers.{answers_of, answer_to, answer_at}}
 use Rattle.cl_bound.specs.declared.answer.TaskAnswer.TheVariants as task
-use Rattle.cl_bound.specs.Answers.{answers_of, answer_to, answer_at}
-use Rattle.cl_analyse.specs.declared.findings.ChainAnswer.{ChainAnswer}
+use Rattle.cl_analyse.specs.{declared.findings.{ChainAnswer.ChainAnswer, ExactAnswer.ExactAnswer, Verdict.Verdict, Findings.Findings}, Verdicts.{verdict_of, verdict_at}, ChainAnswers.{chain_answer_of, chain_answer_at, exact_answer_at}, Findings.AreFindings}
 use Rattle.cl_analyse.specs.declared.findings.ChainAnswer.TheVariants as chain
 use Rattle.cl_exact.specs.ExactLengths.{Witnesses, AreExactLengths}
-use Rattle.cl_analyse.specs.declared.findings.ExactAnswer.{ExactAnswer}
 use Rattle.cl_analyse.specs.declared.findings.ExactAnswer.TheVariants as exact
-use Rattle.cl_analyse.specs.declared.findings.Verdict.{Verdict}
 use Rattle.cl_analyse.specs.declared.findings.Verdict.TheVariants as verdict
-use Rattle.cl_analyse.specs.declared.findings.Findings.{Findings}
-use Rattle.cl_analyse.specs.Verdicts.{verdict_of, verdict_at}
-use Rattle.cl_analyse.specs.ChainAnswers.{chain_answer_of, chain_answer_at, exact_answer_at}
-use Rattle.cl_analyse.specs.Findings.{AreFindings}
 use Rattle.cl_analyse.proofs.SafeFindings.{named_task_within}
-use Rattle.cl_model.specs.Kinds.{requirement_word}
 use Rattle.cl_report.specs.Report.{verdict_words, verdict_line}
 
 -- there is an answer for each task, and one for each chain

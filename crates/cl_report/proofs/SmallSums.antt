@@ -5,31 +5,16 @@ use Rattle.std.proofs.Math.ListN.{length-map}
 use Rattle.std.proofs.lemmas.List.{get_or_default}
 use Rattle.std.proofs.lemmas.List.Elements.{All-map}
 use Rattle.std.proofs.lemmas.List.Sums.{sum_by-cons}
-use Rattle.cl_model.specs.declared.limits.TheConstants.{MOST_TICKS, MOST_STEPS}
-use Rattle.cl_model.specs.declared.chain.ChainDef.{ChainDef}
-use Rattle.cl_model.specs.declared.chain.LengthKind.{LengthKind}
-use Rattle.cl_model.specs.declared.chain.LengthKind.TheVariants.{Reaction, Age, Reduced}
-use Rattle.cl_model.specs.declared.model.SystemModel.{SystemModel}
-use Rattle.cl_model.specs.ByNumber.{no_chain, chain_at}
-use Rattle.cl_model.specs.Groups.{steps_of, groups_at}
-use Rattle.cl_model.specs.Timing.{greatest_distance}
-use Rattle.cl_model.specs.Validity.{IsValid}
+use Rattle.cl_model.specs.{declared.{limits.TheConstants.{MOST_TICKS, MOST_STEPS}, chain.{ChainDef.ChainDef, LengthKind.{LengthKind, TheVariants.{Reaction, Age, Reduced}}}, model.SystemModel.SystemModel}, ByNumber.{no_chain, chain_at}, Groups.{steps_of, groups_at}}
+use Rattle.cl_model.specs.{Timing.greatest_distance, Validity.IsValid}
 use Rattle.cl_model.proofs.GroupFacts.{groups_at_are, groups_at_few}
-use Rattle.cl_runs.specs.TaskTiming.{Timing}
-use Rattle.cl_runs.specs.SystemOf.{system_of}
+use Rattle.cl_runs.specs.{TaskTiming.Timing, SystemOf.system_of}
 use Rattle.cl_runs.proofs.ModelSystem.{timing_is, system_sound}
 use Rattle.cl_stim.proofs.ValidStimuli.{has_stimulus}
 use Rattle.cl_resp.proofs.StimulusKinds.{greatest_few}
-use Rattle.cl_bound.specs.Answers.{answers_of}
-use Rattle.cl_bound.specs.Hops.{group_timing}
-use Rattle.cl_bound.specs.Bounds.{Lengths, bounds_of}
-use Rattle.cl_bound.specs.SettledChains.{AreWithin}
+use Rattle.cl_bound.specs.{Answers.answers_of, Hops.group_timing, Bounds.{Lengths, bounds_of}, SettledChains.AreWithin}
 use Rattle.cl_bound.proofs.SettledChains.{limited}
-use Rattle.cl_analyse.specs.declared.findings.ChainAnswer.{ChainAnswer}
-use Rattle.cl_analyse.specs.declared.findings.Findings.{Findings}
-use Rattle.cl_analyse.specs.ChainAnswers.{first_late, chain_answer, chain_answer_of}
-use Rattle.cl_analyse.specs.Findings.{AreFindings}
-use Rattle.cl_analyse.specs.Verdicts.{bound_of_kind, bound_value}
+use Rattle.cl_analyse.specs.{declared.findings.{ChainAnswer.ChainAnswer, Findings.Findings}, ChainAnswers.{first_late, chain_answer, chain_answer_of}, Findings.AreFindings, Verdicts.{bound_of_kind, bound_value}}
 use Rattle.cl_analyse.proofs.SafeFindings.{chain_settled}
 use Rattle.cl_report.specs.Survey.{bound_sum}
 

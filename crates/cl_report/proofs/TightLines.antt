@@ -5,27 +5,16 @@ use Rattle.std.specs.Option.{option_map}
 use Rattle.std.proofs.Math.ListN.{length-map}
 use Rattle.std.proofs.lemmas.List.{get_or-map}
 use Rattle.std.proofs.lemmas.List.Elements.{All-map}
-use Rattle.cl_model.specs.declared.model.SystemModel.{SystemModel}
-use Rattle.cl_model.specs.declared.group.Step.{Step}
-use Rattle.cl_model.specs.ByNumber.{no_chain, chain_at}
-use Rattle.cl_model.specs.Groups.{step_named, steps_of, no_step, groups_of}
-use Rattle.cl_model.specs.Validity.{IsValid}
-use Rattle.cl_model.proofs.StepFacts.{step_is_known}
-use Rattle.cl_model.proofs.NamesKnown.{steps_known}
+use Rattle.cl_model.specs.{declared.{model.SystemModel.SystemModel, group.Step.Step}, ByNumber.{no_chain, chain_at}, Groups.{step_named, steps_of, no_step, groups_of}, Validity.IsValid}
+use Rattle.cl_model.proofs.{StepFacts.step_is_known, NamesKnown.steps_known}
 use Rattle.cl_runs.specs.SystemOf.{system_of}
 use Rattle.cl_runs.proofs.FirstFound.{first_found}
-use Rattle.cl_bound.specs.declared.answer.TaskAnswer.{TaskAnswer}
-use Rattle.cl_bound.specs.Answers.{answer_at, is_late}
-use Rattle.cl_tight.specs.TightAnswers.{tight_answers_of}
-use Rattle.cl_tight.specs.TightTimings.{tight_timing}
+use Rattle.cl_bound.specs.{declared.answer.TaskAnswer.TaskAnswer, Answers.{answer_at, is_late}}
+use Rattle.cl_tight.specs.{TightAnswers.tight_answers_of, TightTimings.tight_timing, declared.findings.TightFindings.TightFindings, TightFindings.{tight_chain_answer_of, tight_chain_answers_of, tight_verdict_of, tight_findings_of}}
 use Rattle.cl_phase.specs.TightBounds.{tight_bounds}
 use Rattle.cl_tight.proofs.TightTimings.{answer_count}
-use Rattle.cl_analyse.specs.declared.findings.ChainAnswer.{ChainAnswer}
-use Rattle.cl_analyse.specs.declared.findings.ChainAnswer.TheVariants.{Late}
-use Rattle.cl_analyse.specs.ChainAnswers.{first_late, chain_answer_at}
+use Rattle.cl_analyse.specs.{declared.findings.ChainAnswer.{ChainAnswer, TheVariants.Late}, ChainAnswers.{first_late, chain_answer_at}}
 use Rattle.cl_analyse.proofs.SafeFindings.{late_where}
-use Rattle.cl_tight.specs.declared.findings.TightFindings.{TightFindings}
-use Rattle.cl_tight.specs.TightFindings.{tight_chain_answer_of, tight_chain_answers_of, tight_verdict_of, tight_findings_of}
 
 -- ---- one answer for each
 

@@ -2,29 +2,14 @@
 use Rattle.std.specs.Prelude.{◌≡◌, ℕ, List, [], ◌++◌, length, slice_index, codes, decimal, Some, None}
 use Rattle.std.specs.List.{flat_map, range_with_len}
 use Rattle.cl_text.specs.Line.{line}
-use Rattle.cl_model.specs.declared.model.SystemModel.{SystemModel}
-use Rattle.cl_model.specs.declared.chain.LengthKind.{LengthKind}
-use Rattle.cl_model.specs.declared.chain.LengthKind.TheVariants.{Reaction, Age, Reduced}
-use Rattle.cl_model.specs.declared.chain.RequirementDef.{RequirementDef}
-use Rattle.cl_model.specs.Kinds.{length_word, requirement_word}
-use Rattle.cl_model.specs.ByNumber.{task_at, deadline_of, chain_at}
-use Rattle.cl_model.specs.Groups.{group_at, groups_at}
+use Rattle.cl_model.specs.{declared.{model.SystemModel.SystemModel, chain.{LengthKind.{LengthKind, TheVariants.{Reaction, Age, Reduced}}, RequirementDef.RequirementDef}}, Kinds.{length_word, requirement_word}, ByNumber.{task_at, deadline_of, chain_at}, Groups.{group_at, groups_at}}
 use Rattle.cl_runs.specs.Requirements.{requirement_at}
-use Rattle.cl_bound.specs.declared.answer.TaskAnswer.{TaskAnswer}
+use Rattle.cl_bound.specs.{declared.answer.TaskAnswer.TaskAnswer, Answers.answer_at, Bounds.Lengths}
 use Rattle.cl_bound.specs.declared.answer.TaskAnswer.TheVariants as task
-use Rattle.cl_bound.specs.Answers.{answer_at}
-use Rattle.cl_bound.specs.Bounds.{Lengths}
 use Rattle.cl_exact.specs.declared.witness.Witness.{Witness}
-use Rattle.cl_analyse.specs.declared.findings.ChainAnswer.{ChainAnswer}
+use Rattle.cl_analyse.specs.{declared.findings.{ChainAnswer.ChainAnswer, ExactAnswer.ExactAnswer, Verdict.{Verdict, TheVariants.{Met, Broken, Unshown}}, Findings.Findings}, ChainAnswers.{chain_answer_at, exact_answer_at}, Verdicts.verdict_at, Findings.AreFindings}
 use Rattle.cl_analyse.specs.declared.findings.ChainAnswer.TheVariants as chain
-use Rattle.cl_analyse.specs.declared.findings.ExactAnswer.{ExactAnswer}
 use Rattle.cl_analyse.specs.declared.findings.ExactAnswer.TheVariants as exact
-use Rattle.cl_analyse.specs.declared.findings.Verdict.{Verdict}
-use Rattle.cl_analyse.specs.declared.findings.Verdict.TheVariants.{Met, Broken, Unshown}
-use Rattle.cl_analyse.specs.declared.findings.Findings.{Findings}
-use Rattle.cl_analyse.specs.ChainAnswers.{chain_answer_at, exact_answer_at}
-use Rattle.cl_analyse.specs.Verdicts.{verdict_at}
-use Rattle.cl_analyse.specs.Findings.{AreFindings}
 
 -- ---- tasks
 

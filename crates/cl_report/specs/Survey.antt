@@ -1,18 +1,11 @@
 -- The survey of a model: how many of its tasks and chains were found how, and the sums of the bounds.
 use Rattle.std.specs.Prelude.{◌≡◌, ℕ, Bool, true, false, not, List, ◌++◌, length, count_by, sum_by, codes, decimal, unwrap_or}
 use Rattle.cl_text.specs.Line.{line}
-use Rattle.cl_model.specs.declared.chain.LengthKind.{LengthKind}
-use Rattle.cl_model.specs.declared.chain.LengthKind.TheVariants.{Reaction, Age, Reduced}
-use Rattle.cl_model.specs.declared.model.SystemModel.{SystemModel}
-use Rattle.cl_bound.specs.declared.answer.TaskAnswer.{TaskAnswer}
-use Rattle.cl_bound.specs.Answers.{is_late}
-use Rattle.cl_analyse.specs.declared.findings.ChainAnswer.{ChainAnswer}
+use Rattle.cl_model.specs.declared.{chain.LengthKind.{LengthKind, TheVariants.{Reaction, Age, Reduced}}, model.SystemModel.SystemModel}
+use Rattle.cl_bound.specs.{declared.answer.TaskAnswer.TaskAnswer, Answers.is_late}
+use Rattle.cl_analyse.specs.{declared.findings.{ChainAnswer.ChainAnswer, ExactAnswer.ExactAnswer, Findings.Findings}, Verdicts.bound_value, Findings.AreFindings}
 use Rattle.cl_analyse.specs.declared.findings.ChainAnswer.TheVariants as chain
-use Rattle.cl_analyse.specs.declared.findings.ExactAnswer.{ExactAnswer}
 use Rattle.cl_analyse.specs.declared.findings.ExactAnswer.TheVariants as exact
-use Rattle.cl_analyse.specs.declared.findings.Findings.{Findings}
-use Rattle.cl_analyse.specs.Verdicts.{bound_value}
-use Rattle.cl_analyse.specs.Findings.{AreFindings}
 
 -- ---- what is counted
 

@@ -3,9 +3,7 @@ ghost use Rattle.std.specs.Prelude.{◌≡◌, ◌<◌, ◌++◌, length, slice_
 ghost use Rattle.cl_model.specs.Groups.{groups_at};
 ghost use Rattle.cl_runs.specs.SystemOf.{system_of};
 ghost use Rattle.cl_exact.specs.ExactLengths.{AreExactLengths};
-ghost use Rattle.cl_analyse.specs.declared.findings.ExactAnswer.TheVariants.{Exact};
-ghost use Rattle.cl_analyse.specs.ChainAnswers.{exact_answer_at};
-ghost use Rattle.cl_analyse.specs.Findings.{AreFindings};
+ghost use Rattle.cl_analyse.specs.{declared.findings.ExactAnswer.TheVariants.Exact, ChainAnswers.exact_answer_at, Findings.AreFindings};
 ghost use Rattle.cl_text.specs.Beginnings.{PutsPart};
 ghost use Rattle.cl_report.specs.Report.{job_words, jobs_words, witness_line, past_line, exact_lines};
 

@@ -1,8 +1,7 @@
 //! A model has at most one report, and at most one survey.
 ghost use Rattle.std.specs.Prelude.{◌≡◌, ℕ, List};
 ghost use Rattle.cl_model.specs.declared.model.SystemModel.{SystemModel};
-ghost use Rattle.cl_report.specs.Report.{IsReportOf};
-ghost use Rattle.cl_report.specs.Survey.{IsSurveyOf};
+ghost use Rattle.cl_report.specs.{Report.IsReportOf, Survey.IsSurveyOf};
 
 /// Two texts that are the report of one model are equal.
 pub fn reports_are_unique()

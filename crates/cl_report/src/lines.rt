@@ -1,8 +1,7 @@
 //! The report of a model, as text.
 ghost use Rattle.std.specs.Prelude.{◌≡◌, ℕ, ◌<◌, ◌++◌, length, OnOk, OnErr, IfOk};
 ghost use Rattle.std.specs.List.{flat_map, range_with_len};
-ghost use Rattle.cl_analyse.specs.declared.findings.ChainAnswer.TheVariants.{Late};
-ghost use Rattle.cl_analyse.specs.Findings.{AreFindings};
+ghost use Rattle.cl_analyse.specs.{declared.findings.ChainAnswer.TheVariants.Late, Findings.AreFindings};
 ghost use Rattle.cl_text.specs.Beginnings.{PutsPart};
 ghost use Rattle.cl_report.specs.Report.{task_words, task_line, task_lines, bounds_words, chain_words, chain_line, chain_lines, report_text};
 

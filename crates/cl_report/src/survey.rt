@@ -1,8 +1,7 @@
 //! The survey of a model, as text.
 ghost use Rattle.std.specs.Prelude.{◌≡◌, ◌^◌, ◌<◌, ◌++◌, count_by, unwrap_or, OnOk, IfOk};
 ghost use Rattle.cl_model.specs.declared.chain.LengthKind.TheVariants.{Reaction, Age, Reduced};
-ghost use Rattle.cl_analyse.specs.Findings.{AreFindings};
-ghost use Rattle.cl_analyse.specs.Verdicts.{bound_value};
+ghost use Rattle.cl_analyse.specs.{Findings.AreFindings, Verdicts.bound_value};
 ghost use Rattle.cl_bound.specs.Answers.{is_late};
 ghost use Rattle.cl_report.specs.Survey.{is_settled, is_bounded, is_unbounded, is_exact, is_past, bound_sum, counted_line, tasks_line, chains_line, exacts_line, sums_line, survey_text};
 

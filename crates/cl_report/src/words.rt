@@ -1,9 +1,7 @@
 //! The words that the lines of several texts share: names of a model, kinds of requirements, and
 //! the jobs of a chain.
 ghost use Rattle.std.specs.Prelude.{◌≡◌, ◌<◌, ◌++◌, length, OnOk, OnErr};
-ghost use Rattle.cl_model.specs.Kinds.{requirement_word};
-ghost use Rattle.cl_model.specs.ByNumber.{task_at, chain_at};
-ghost use Rattle.cl_model.specs.Groups.{groups_at};
+ghost use Rattle.cl_model.specs.{Kinds.requirement_word, ByNumber.{task_at, chain_at}, Groups.groups_at};
 ghost use Rattle.cl_text.specs.Beginnings.{PutsPart};
 ghost use Rattle.cl_report.specs.Report.{job_words, jobs_words};
 

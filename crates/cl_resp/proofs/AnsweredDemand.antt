@@ -1,25 +1,14 @@
 -- What a window of a run needs, what is asked of it by phases, and what is asked where no task is in
 -- phase: each is no more than the next.
 use Rattle.std.proofs.Common.{◌≡◌, ℕ, ◌<◌, ◌≤◌, ℤ, pos, ◌-ℤ◌, Bool, true, false, Option, Some, None, length, refl, arith, mul-le-mul_right}
-use Rattle.cl_model.specs.declared.stimulus.StimulusKind.{StimulusKind}
-use Rattle.cl_model.specs.Timing.{greatest_jitter}
-use Rattle.cl_runs.specs.Pattern.{IsPattern}
-use Rattle.cl_runs.specs.TaskTiming.{System, timing_at, IsSound}
-use Rattle.cl_runs.specs.Run.{Run, jobs_of}
-use Rattle.cl_runs.specs.Legal.{IsLegal}
+use Rattle.cl_model.specs.{declared.stimulus.StimulusKind.StimulusKind, Timing.greatest_jitter}
+use Rattle.cl_runs.specs.{Pattern.IsPattern, TaskTiming.{System, timing_at, IsSound}, Run.{Run, jobs_of}, Legal.IsLegal}
 use Rattle.cl_runs.proofs.RunArrivals.{follow_pattern}
-use Rattle.cl_stim.specs.declared.phase.Phase.{Phase}
-use Rattle.cl_stim.specs.Phase.{phase_of}
-use Rattle.cl_stim.specs.Releases.{releases_in, most_releases}
+use Rattle.cl_stim.specs.{declared.phase.Phase.Phase, Phase.phase_of, Releases.{releases_in, most_releases}}
 use Rattle.cl_stim.proofs.Releases.{few_releases}
-use Rattle.cl_cycle.proofs.CountedJobs.{released_in_phase}
-use Rattle.cl_cycle.proofs.CountedMost.{most_arrivals}
-use Rattle.cl_resp.specs.Question.{greatest_execution}
-use Rattle.cl_resp.specs.Clear.{time_released, released_above, needed}
-use Rattle.cl_resp.specs.ByPhase.{phase_if, released_by, time_by, demand_by}
-use Rattle.cl_resp.proofs.BusyWindowTotals.{total, total_rises, total_of_range}
-use Rattle.cl_resp.proofs.BusyWindowTicks.{above}
-use Rattle.cl_resp.proofs.BusyWindowDemand.{most_taken, HoldsDemand}
+use Rattle.cl_cycle.proofs.{CountedJobs.released_in_phase, CountedMost.most_arrivals}
+use Rattle.cl_resp.specs.{Question.greatest_execution, Clear.{time_released, released_above, needed}, ByPhase.{phase_if, released_by, time_by, demand_by}}
+use Rattle.cl_resp.proofs.{BusyWindowTotals.{total, total_rises, total_of_range}, BusyWindowTicks.above, BusyWindowDemand.{most_taken, HoldsDemand}}
 
 -- a task that counts by a phase counts by its own
 own_phase : (in_phase : Bool) (kind : StimulusKind) (phase : Phase) → phase_if in_phase kind ≡ Some phase → phase_of kind ≡ Some phase

@@ -13,14 +13,8 @@ use Rattle.cl_runs.specs.TaskTiming.{System, timing_at, IsSound}
 use Rattle.cl_runs.proofs.FirstFound.{first_found, none_passes}
 use Rattle.cl_stim.specs.Phase.{arrives_at}
 use Rattle.cl_cycle.specs.Cycles.{is_one_of, in_phase_above}
-use Rattle.cl_resp.specs.Question.{greatest_execution}
-use Rattle.cl_resp.specs.Response.{IsSettled, IsTightlySettled}
-use Rattle.cl_resp.specs.Asked.{Asked, holds_within, beginnings_of, is_answered, suffices, least_response, AnswersWithin}
-use Rattle.cl_resp.specs.ByPhase.{asked_with, asked_by_phase, response_by_phase, IsSettledByPhase}
-use Rattle.cl_resp.proofs.BusyWindowDemand.{window_holds}
-use Rattle.cl_resp.proofs.LessAsked.{tight_no_later}
-use Rattle.cl_resp.proofs.SettledTasks.{answered_window, answered_response, tight_answer}
-use Rattle.cl_resp.proofs.AnsweredDemand.{choice_asks_less, holds_anywhere}
+use Rattle.cl_resp.specs.{Question.greatest_execution, Response.{IsSettled, IsTightlySettled}, Asked.{Asked, holds_within, beginnings_of, is_answered, suffices, least_response, AnswersWithin}, ByPhase.{asked_with, asked_by_phase, response_by_phase, IsSettledByPhase}}
+use Rattle.cl_resp.proofs.{BusyWindowDemand.window_holds, LessAsked.tight_no_later, SettledTasks.{answered_window, answered_response, tight_answer}, AnsweredDemand.{choice_asks_less, holds_anywhere}}
 
 -- ---- a window that serves wherever it begins
 

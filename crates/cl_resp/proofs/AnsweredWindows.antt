@@ -5,10 +5,8 @@ use Rattle.std.proofs.Common.{◌≡◌, ℕ, ◌*◌, ℤ, pos, ◌+ℤ◌, ◌
 use Rattle.std.proofs.lemmas.Int.{ints, by_lt_z}
 use Rattle.cl_model.specs.declared.stimulus.StimulusKind.{StimulusKind}
 use Rattle.cl_runs.specs.Pattern.{IsPattern}
-use Rattle.cl_stim.specs.declared.phase.Phase.{Phase}
-use Rattle.cl_stim.specs.Phase.{IsPhase, IsArrivalOf, phase_of, first_arrival, last_arrival}
-use Rattle.cl_stim.proofs.PatternPhases.{phase_is}
-use Rattle.cl_stim.proofs.PhaseSteps.{first_arrives, first_after, first_before, last_arrives, last_before}
+use Rattle.cl_stim.specs.{declared.phase.Phase.Phase, Phase.{IsPhase, IsArrivalOf, phase_of, first_arrival, last_arrival}}
+use Rattle.cl_stim.proofs.{PatternPhases.phase_is, PhaseSteps.{first_arrives, first_after, first_before, last_arrives, last_before}}
 use Rattle.cl_cycle.specs.Counts.{each_moment, arrivals_of}
 use Rattle.cl_resp.specs.Asked.{Asked, MayBegin, EndsBy, AnswersWithin}
 

@@ -4,19 +4,11 @@ use Rattle.std.proofs.Common.{ℕ, ◌+◌, ◌*◌, ◌<◌, ◌≤◌, length,
 use Rattle.std.specs.Prelude.{sum_by, map, filter}
 use Rattle.std.proofs.lemmas.List.Sums.{sum_by-le-sum_by}
 use Rattle.std.proofs.lemmas.List.Folds.{fold-map}
-use Rattle.cl_model.specs.declared.stimulus.StimulusKind.{StimulusKind}
-use Rattle.cl_model.specs.Timing.{greatest_jitter}
-use Rattle.cl_runs.specs.TaskTiming.{Timing, System, timing_at, no_timing, IsSound}
-use Rattle.cl_runs.specs.Priorities.{is_above}
-use Rattle.cl_stim.specs.AnyStimulus.{kind_of, as_stimulus}
-use Rattle.cl_stim.specs.Releases.{most_releases}
-use Rattle.cl_resp.specs.declared.question.Above.{Above}
-use Rattle.cl_resp.specs.declared.question.Question.{Question}
-use Rattle.cl_resp.specs.Question.{greatest_execution, lower_block_of, taken_by, AsksEnough}
-use Rattle.cl_resp.specs.Response.{demand, IsWindow}
-use Rattle.cl_resp.proofs.BusyWindowTotals.{total, total_of_list}
-use Rattle.cl_resp.proofs.BusyWindowTicks.{above}
-use Rattle.cl_resp.proofs.StimulusKinds.{kind_of-as_stimulus}
+use Rattle.cl_model.specs.{declared.stimulus.StimulusKind.StimulusKind, Timing.greatest_jitter}
+use Rattle.cl_runs.specs.{TaskTiming.{Timing, System, timing_at, no_timing, IsSound}, Priorities.is_above}
+use Rattle.cl_stim.specs.{AnyStimulus.{kind_of, as_stimulus}, Releases.most_releases}
+use Rattle.cl_resp.specs.{declared.question.{Above.Above, Question.Question}, Question.{greatest_execution, lower_block_of, taken_by, AsksEnough}, Response.{demand, IsWindow}}
+use Rattle.cl_resp.proofs.{BusyWindowTotals.{total, total_of_list}, BusyWindowTicks.above, StimulusKinds.kind_of-as_stimulus}
 
 -- the most ticks that task j takes of a window
 abbrev pub most_taken : System → (width j : ℕ) → ℕ

@@ -4,21 +4,10 @@
 use Rattle.std.proofs.Common.{◌≡◌, ℕ, suc, ◌+◌, ◌<◌, ◌≤◌, inl, inr, true, ◌-◌, length, sym, ◌∙◌, arith}
 use Rattle.std.specs.Prelude.{slice_index}
 use Rattle.std.proofs.lemmas.Bool.{cases_lt, cond-true, and_from, eq-eqb, lt-ltb}
-use Rattle.cl_runs.specs.TaskTiming.{Timing, System, timing_at, no_timing, range_at, no_range, IsSound}
-use Rattle.cl_runs.specs.Table.{job_at, LiesIn}
-use Rattle.cl_runs.specs.Run.{Run, jobs_of, executed}
-use Rattle.cl_runs.specs.Held.{IsHeldIn}
-use Rattle.cl_runs.specs.Legal.{IsHighestPending, IsLegal}
-use Rattle.cl_runs.specs.Moments.{Starts, HasStartedBefore}
-use Rattle.cl_runs.specs.Priorities.{is_below}
-use Rattle.cl_runs.proofs.Holding.{whole_finishes, start_pending}
-use Rattle.cl_runs.proofs.LegalFacts.{place_of_task, job_times}
-use Rattle.cl_runs.proofs.MomentFacts.{has_started}
-use Rattle.cl_runs.proofs.StartsFinishes.{finish_reached}
-use Rattle.cl_runs.proofs.ZippedLists.{zip_at}
+use Rattle.cl_runs.specs.{TaskTiming.{Timing, System, timing_at, no_timing, range_at, no_range, IsSound}, Table.{job_at, LiesIn}, Run.{Run, jobs_of, executed}, Held.IsHeldIn, Legal.{IsHighestPending, IsLegal}, Moments.{Starts, HasStartedBefore}, Priorities.is_below}
+use Rattle.cl_runs.proofs.{Holding.{whole_finishes, start_pending}, LegalFacts.{place_of_task, job_times}, MomentFacts.has_started, StartsFinishes.finish_reached, ZippedLists.zip_at}
 use Rattle.cl_resp.specs.Question.{hold_of, longest_hold, lower_block_of}
-use Rattle.cl_resp.proofs.BusyWindowTicks.{above_core, above_priority, RunsLower, IsWaiting}
-use Rattle.cl_resp.proofs.BusyWindowWork.{released_is}
+use Rattle.cl_resp.proofs.{BusyWindowTicks.{above_core, above_priority, RunsLower, IsWaiting}, BusyWindowWork.released_is}
 use Rattle.cl_model.proofs.Greatest.{greatest_least, greatest_filtered}
 
 -- a runnable that has begun holds its core no longer than the longest hold of its task

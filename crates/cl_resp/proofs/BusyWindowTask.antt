@@ -1,30 +1,11 @@
 -- Every job of a task that has a response finishes within it, one after the other.
 use Rattle.std.proofs.Common.{◌≡◌, ℕ, zero, suc, ◌+◌, ◌-◌, ◌<◌, ◌≤◌, Some, length, arith}
 use Rattle.cl_model.specs.Timing.{greatest_jitter}
-use Rattle.cl_runs.specs.TaskTiming.{System, timing_at, IsSound}
-use Rattle.cl_runs.specs.Table.{job_at}
-use Rattle.cl_runs.specs.Run.{Run, jobs_of, executed}
-use Rattle.cl_runs.specs.Legal.{IsLegal}
-use Rattle.cl_runs.specs.Moments.{JobFinishes}
-use Rattle.cl_runs.proofs.Climbing.{climb_mono}
-use Rattle.cl_runs.proofs.Executed.{executed_climbs}
-use Rattle.cl_runs.proofs.LegalFacts.{job_places}
-use Rattle.cl_runs.proofs.RunArrivals.{arrives_after_deadline, released_late, released_within}
-use Rattle.cl_runs.proofs.StartsFinishes.{finishes_by}
-use Rattle.cl_runs.proofs.Work.{through_job}
-use Rattle.cl_runs.specs.Responses.{AlwaysFinishesWithin, IsTimely}
-use Rattle.cl_resp.specs.declared.question.Question.{Question}
-use Rattle.cl_resp.specs.Promises.{AnswersFor}
-use Rattle.cl_resp.specs.Clear.{released_before, work_of_first, IsDoneBy}
-use Rattle.cl_resp.specs.Response.{busy_window, IsSettled, IsTightlySettled}
-use Rattle.cl_resp.proofs.BusyWindowTicks.{above}
-use Rattle.cl_resp.proofs.BusyWindowStart.{last_clear, no_later}
-use Rattle.cl_resp.proofs.BusyWindowWork.{before_zero}
-use Rattle.cl_resp.proofs.BusyWindowDemand.{HoldsDemand, window_holds}
-use Rattle.cl_resp.proofs.BusyWindowRun.{IsLastClearTo}
-use Rattle.cl_resp.proofs.BusyWindowJob.{done_in_window}
-use Rattle.cl_resp.proofs.SettledTasks.{IsAnswered, answered_window, answered_response, settled_answer, response_in_deadline, tight_answer, tight_in_deadline}
-use Rattle.cl_resp.proofs.Windows.{window_is_least}
+use Rattle.cl_runs.specs.{TaskTiming.{System, timing_at, IsSound}, Table.job_at, Run.{Run, jobs_of, executed}, Legal.IsLegal, Moments.JobFinishes, Responses.{AlwaysFinishesWithin, IsTimely}}
+use Rattle.cl_runs.proofs.{Climbing.climb_mono, Executed.executed_climbs, LegalFacts.job_places, RunArrivals.{arrives_after_deadline, released_late, released_within}, StartsFinishes.finishes_by, Work.through_job}
+use Rattle.cl_resp.specs.{declared.question.Question.Question, Promises.AnswersFor, Clear.{released_before, work_of_first, IsDoneBy}, Response.{busy_window, IsSettled, IsTightlySettled}}
+use Rattle.cl_resp.proofs.{BusyWindowTicks.above, BusyWindowStart.{last_clear, no_later}, BusyWindowWork.before_zero, BusyWindowDemand.{HoldsDemand, window_holds}, BusyWindowRun.IsLastClearTo, BusyWindowJob.done_in_window, SettledTasks.{IsAnswered, answered_window, answered_response}}
+use Rattle.cl_resp.proofs.{SettledTasks.{settled_answer, response_in_deadline, tight_answer, tight_in_deadline}, Windows.window_is_least}
 
 -- from the last clear moment up to the release of job k on, by the end of a window there is a clear one at which jobs 0
 -- to k are done

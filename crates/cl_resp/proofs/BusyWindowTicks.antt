@@ -1,18 +1,10 @@
 -- What a core runs in a tick while a task or one above it waits: one of these, or a held task of lower priority.
 use Rattle.std.proofs.Common.{◌≡◌, ℕ, zero, suc, ◌+◌, ◌<◌, ◌≤◌, ◌⊎◌, inl, inr, Option, Some, None, Bool, true, length, refl, ap, ◌∙◌, arith}
 use Rattle.std.proofs.lemmas.Bool.{cases_lt, and_parts, and_from, eqb-true, eq-eqb, ltb-true, lt-ltb}
-use Rattle.cl_runs.specs.TaskTiming.{System, timing_at, IsSound}
-use Rattle.cl_runs.specs.Run.{Run, jobs_of, entry_at, executed}
-use Rattle.cl_runs.specs.Legal.{released, IsHighestPending, IsNonePending, IsLegal, IsScheduled}
-use Rattle.cl_runs.specs.Moments.{IsHeldAt}
-use Rattle.cl_runs.specs.Priorities.{is_above}
-use Rattle.cl_runs.proofs.Climbing.{climb_mono}
-use Rattle.cl_runs.proofs.Executed.{executed_zero, executed_climbs, executed_grew, executed_more}
-use Rattle.cl_runs.proofs.LegalFacts.{core_ticks, executed_released, running_pending}
+use Rattle.cl_runs.specs.{TaskTiming.{System, timing_at, IsSound}, Run.{Run, jobs_of, entry_at, executed}, Legal.{released, IsHighestPending, IsNonePending, IsLegal, IsScheduled}, Moments.IsHeldAt, Priorities.is_above}
+use Rattle.cl_runs.proofs.{Climbing.climb_mono, Executed.{executed_zero, executed_climbs, executed_grew, executed_more}, LegalFacts.{core_ticks, executed_released, running_pending}}
 use Rattle.cl_resp.specs.Clear.{released_before}
-use Rattle.cl_resp.proofs.BusyWindowTotals.{total, total_rises, total_grows}
-use Rattle.cl_resp.proofs.BusyWindowStart.{HasLess}
-use Rattle.cl_resp.proofs.BusyWindowWork.{released_is}
+use Rattle.cl_resp.proofs.{BusyWindowTotals.{total, total_rises, total_grows}, BusyWindowStart.HasLess, BusyWindowWork.released_is}
 
 -- whether task j is above task i
 abbrev pub above : System → ℕ → ℕ → Bool

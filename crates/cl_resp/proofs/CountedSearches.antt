@@ -1,9 +1,7 @@
 -- What a search finds that keeps what the tasks take of its windows, which begin at a fixed moment.
 use Rattle.std.proofs.Common.{◌≡◌, ℕ, ◌<◌, ◌≤◌, ℤ, false, sym, subst}
 use Rattle.std.specs.Prelude.{Option, None, MatchOption}
-use Rattle.cl_resp.specs.declared.phased.PhasedQuestion.{PhasedQuestion}
-use Rattle.cl_resp.specs.Asked.{holds_within}
-use Rattle.cl_resp.specs.Inner.Phased.{asked_of, NoneBefore, IsLeastFrom}
+use Rattle.cl_resp.specs.{declared.phased.PhasedQuestion.PhasedQuestion, Asked.holds_within, Inner.Phased.{asked_of, NoneBefore, IsLeastFrom}}
 use Rattle.cl_resp.proofs.PhasedWindows.{none_needed}
 
 -- the least window that holds its own demand, or none of so many ticks

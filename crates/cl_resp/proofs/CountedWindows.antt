@@ -3,13 +3,10 @@
 use Rattle.std.proofs.Common.{◌≡◌, ℕ, zero, suc, ◌+◌, ◌-◌, ◌*◌, ◌<◌, ◌≤◌, ℤ, pos, ◌+ℤ◌, ◌-ℤ◌, ◌≤ℤ◌, Bool, true, false, List, length, get_or, refl, sym, ap, ◌∙◌, subst, arith}
 use Rattle.std.proofs.lemmas.Int.{ints}
 use Rattle.std.proofs.lemmas.List.{get_or_default}
-use Rattle.cl_stim.specs.declared.phase.Phase.{Phase}
-use Rattle.cl_stim.specs.Phase.{IsPhase, arrives_at, first_arrival}
-use Rattle.cl_stim.proofs.ArrivalTests.{arrives_from_test}
-use Rattle.cl_stim.proofs.PhaseSteps.{first_before}
+use Rattle.cl_stim.specs.{declared.phase.Phase.Phase, Phase.{IsPhase, arrives_at, first_arrival}}
+use Rattle.cl_stim.proofs.{ArrivalTests.arrives_from_test, PhaseSteps.first_before}
 use Rattle.cl_cycle.specs.Counts.{arrivals_from}
-use Rattle.cl_resp.specs.declared.phased.InPhase.{InPhase}
-use Rattle.cl_resp.specs.Inner.Phased.{time_in_phase}
+use Rattle.cl_resp.specs.{declared.phased.InPhase.InPhase, Inner.Phased.time_in_phase}
 use Rattle.cl_cycle.proofs.CountedTicks.{one_if, longer}
 
 not_true : (b : Bool) → (b ≡ true → ⊥) → b ≡ false

@@ -8,22 +8,11 @@ use Rattle.std.proofs.lemmas.List.Folds.{fold-map}
 use Rattle.std.proofs.lemmas.Nat.{div-add-mod'}
 use Rattle.std.proofs.lemmas.List.Sums.{sum_by-cons}
 use Rattle.std.proofs.Math.Nat.{mul-le-mul_right}
-use Rattle.cl_model.specs.declared.stimulus.StimulusKind.{StimulusKind}
-use Rattle.cl_model.specs.declared.stimulus.StimulusKind.TheVariants.{Periodic, Sporadic, Burst}
-use Rattle.cl_runs.specs.Pattern.{IsPattern}
-use Rattle.cl_runs.specs.TaskTiming.{Timing, System, timing_at, IsSound}
-use Rattle.cl_runs.specs.Priorities.{is_above}
-use Rattle.cl_stim.specs.AnyStimulus.{kind_of, as_stimulus}
-use Rattle.cl_stim.specs.Releases.{most_releases}
-use Rattle.cl_resp.specs.declared.question.Block.{Block}
-use Rattle.cl_resp.specs.declared.question.Block.TheVariants.{OfLower, WithOwn}
-use Rattle.cl_resp.specs.declared.question.Above.{Above}
-use Rattle.cl_resp.specs.Question.{greatest_execution, taken_by, question_of, tight_question_of, either_question}
-use Rattle.cl_resp.specs.Response.{demand, NoneServesBelow}
-use Rattle.cl_resp.specs.Inner.Rising.{taken_in}
-use Rattle.cl_resp.proofs.StimulusKinds.{kind_of-as_stimulus}
-use Rattle.cl_resp.proofs.SettledTasks.{tasks_take_time}
-use Rattle.cl_resp.proofs.Windows.{demand_some}
+use Rattle.cl_model.specs.declared.stimulus.StimulusKind.{StimulusKind, TheVariants.{Periodic, Sporadic, Burst}}
+use Rattle.cl_runs.specs.{Pattern.IsPattern, TaskTiming.{Timing, System, timing_at, IsSound}, Priorities.is_above}
+use Rattle.cl_stim.specs.{AnyStimulus.{kind_of, as_stimulus}, Releases.most_releases}
+use Rattle.cl_resp.specs.{declared.question.{Block.{Block, TheVariants.{OfLower, WithOwn}}, Above.Above}, Question.{greatest_execution, taken_by, question_of, tight_question_of, either_question}, Response.{demand, NoneServesBelow}, Inner.Rising.taken_in}
+use Rattle.cl_resp.proofs.{StimulusKinds.kind_of-as_stimulus, SettledTasks.tasks_take_time, Windows.demand_some}
 
 -- ---- a sum over more items is no less
 

@@ -2,10 +2,8 @@
 use Rattle.std.proofs.Common.{◌≡◌, ◌<◌, ◌≤◌, true, nat_le, nat_lt, refl, arith}
 use Rattle.std.specs.Prelude.{◌==◌}
 use Rattle.std.proofs.lemmas.Bool.{and_parts, and_from, ltb-true, le-leb}
-use Rattle.cl_runs.specs.TaskTiming.{Timing, System}
-use Rattle.cl_runs.specs.Priorities.{may_block, is_below}
-use Rattle.cl_resp.specs.Question.{longest_hold, block_of, lower_block_of, question_of, tight_question_of, AsksEnough}
-use Rattle.cl_resp.specs.Response.{demand, AsksNoMore}
+use Rattle.cl_runs.specs.{TaskTiming.{Timing, System}, Priorities.{may_block, is_below}}
+use Rattle.cl_resp.specs.{Question.{longest_hold, block_of, lower_block_of, question_of, tight_question_of, AsksEnough}, Response.{demand, AsksNoMore}}
 use Rattle.cl_model.proofs.Greatest.{greatest_of_more}
 
 module _ (system : System) (task : Timing) where

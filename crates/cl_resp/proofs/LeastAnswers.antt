@@ -7,11 +7,9 @@ use Rattle.std.proofs.lemmas.Int.{ints}
 use Rattle.std.proofs.lemmas.List.FromFn.{get_or-range_with_len, length-range_with_len}
 use Rattle.cl_runs.proofs.FirstFound.{first_found, none_passes}
 use Rattle.cl_stim.specs.Phase.{IsPhase, last_arrival, arrives_at}
-use Rattle.cl_stim.proofs.ArrivalTests.{arrives_from_test, test_from_arrival}
-use Rattle.cl_stim.proofs.PhaseSteps.{last_before}
+use Rattle.cl_stim.proofs.{ArrivalTests.{arrives_from_test, test_from_arrival}, PhaseSteps.last_before}
 use Rattle.cl_resp.specs.Asked.{Asked, holds_within, beginnings_of, is_answered, suffices, least_response, EndsBy, AnswersWithin, IsLeastResponse, ComesRound}
-use Rattle.cl_resp.proofs.LeastRanges.{each_passes, all_pass, one_passes, some_passes, each_of_them_passes, all_of_them_pass}
-use Rattle.cl_resp.proofs.LeastMoved.{Answered, all_answered}
+use Rattle.cl_resp.proofs.{LeastRanges.{each_passes, all_pass, one_passes, some_passes, each_of_them_passes, all_of_them_pass}, LeastMoved.{Answered, all_answered}}
 
 -- ---- numbers about an arrival, how long ago the one before it was, and where a window begins
 

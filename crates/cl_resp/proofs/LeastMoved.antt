@@ -4,8 +4,7 @@ use Rattle.std.specs.Int.{◌∣◌}
 use Rattle.std.proofs.Math.Nat.{dvd-mul_left_of_dvd, mul-le-mul_right}
 use Rattle.std.proofs.lemmas.Int.{ints}
 use Rattle.std.proofs.lemmas.Nat.{div-add-mod', mod_below}
-use Rattle.cl_stim.specs.declared.phase.Phase.{Phase}
-use Rattle.cl_stim.specs.Phase.{IsPhase, IsArrivalOf, last_arrival}
+use Rattle.cl_stim.specs.{declared.phase.Phase.Phase, Phase.{IsPhase, IsArrivalOf, last_arrival}}
 use Rattle.cl_stim.proofs.PhaseSteps.{last_arrives, last_before, last_after, last_moved}
 use Rattle.cl_resp.specs.Asked.{Asked, MayBegin, EndsBy, AnswersWithin, ComesRound}
 

@@ -2,12 +2,8 @@
 use Rattle.std.proofs.Common.{◌≡◌, ℕ, ◌+◌, ◌≤◌, Option, Some, None, refl, ap, arith}
 use Rattle.std.specs.Option.{option_map}
 use Rattle.cl_runs.specs.TaskTiming.{System, timing_at}
-use Rattle.cl_resp.specs.declared.question.Question.{Question}
-use Rattle.cl_resp.specs.Question.{question_of, tight_question_of}
-use Rattle.cl_resp.specs.Response.{Response, busy_window, response_to, IsSettled, IsTightlySettled, AsksNoMore, IsAnsweredBy}
-use Rattle.cl_resp.proofs.EnoughAsked.{tight_asks_no_more}
-use Rattle.cl_resp.proofs.SettledTasks.{answer_of, answer_parts}
-use Rattle.cl_resp.proofs.Windows.{window_is_least, no_window_holds}
+use Rattle.cl_resp.specs.{declared.question.Question.Question, Question.{question_of, tight_question_of}, Response.{Response, busy_window, response_to, IsSettled, IsTightlySettled, AsksNoMore, IsAnsweredBy}}
+use Rattle.cl_resp.proofs.{EnoughAsked.tight_asks_no_more, SettledTasks.{answer_of, answer_parts}, Windows.{window_is_least, no_window_holds}}
 
 pub answered_no_later : (question other : Question) → AsksNoMore question other
     → (latest : Response) → response_to other ≡ Some latest → IsAnsweredBy question latest

@@ -9,37 +9,15 @@ use Rattle.std.proofs.lemmas.List.{get_or-take, length-map, length-take}
 use Rattle.std.proofs.lemmas.List.Elements.{All-head, All-tail, All-filter}
 use Rattle.std.proofs.lemmas.List.FromFn.{get_or-range_with_len, length-range_with_len}
 use Rattle.std.proofs.lemmas.List.Sums.{sum_by-cons, sum_by-take-le, get_or-le-sum_by}
-use Rattle.cl_model.specs.declared.limits.TheConstants.{MOST_TICKS}
-use Rattle.cl_model.specs.declared.model.SystemModel.{SystemModel}
-use Rattle.cl_model.specs.declared.stimulus.StimulusKind.{StimulusKind}
-use Rattle.cl_model.specs.ByNumber.{task_at}
-use Rattle.cl_model.specs.Timing.{greatest_jitter}
-use Rattle.cl_model.specs.Validity.{IsValid}
-use Rattle.cl_runs.specs.Pattern.{IsPattern}
-use Rattle.cl_runs.specs.TaskTiming.{TimeRange, Timing, System, timing_at, no_range, IsSound}
-use Rattle.cl_runs.specs.SystemOf.{range_of, system_of}
-use Rattle.cl_runs.specs.Responses.{AlwaysFinishesWithin}
+use Rattle.cl_model.specs.{declared.{limits.TheConstants.MOST_TICKS, model.SystemModel.SystemModel, stimulus.StimulusKind.StimulusKind}, ByNumber.task_at, Timing.greatest_jitter, Validity.IsValid}
+use Rattle.cl_runs.specs.{Pattern.IsPattern, TaskTiming.{TimeRange, Timing, System, timing_at, no_range, IsSound}, SystemOf.{range_of, system_of}, Responses.AlwaysFinishesWithin, Priorities.{is_above, tasks_above}}
 use Rattle.cl_runs.proofs.ModelSystem.{timing_is, count_is, system_sound}
-use Rattle.cl_runs.specs.Priorities.{is_above, tasks_above}
-use Rattle.cl_stim.specs.declared.phase.Phase.{Phase}
-use Rattle.cl_stim.specs.Phase.{phase_of}
-use Rattle.cl_stim.specs.Releases.{most_releases}
+use Rattle.cl_stim.specs.{declared.phase.Phase.Phase, Phase.phase_of, Releases.most_releases}
 use Rattle.cl_cycle.specs.Cycles.{is_one_of, in_phase_above}
-use Rattle.cl_resp.specs.declared.question.Above.{Above}
-use Rattle.cl_resp.specs.declared.question.Question.{Question}
-use Rattle.cl_resp.specs.declared.phased.PhasedQuestion.{PhasedQuestion}
-use Rattle.cl_resp.specs.Clear.{greatest_through}
-use Rattle.cl_resp.specs.Question.{greatest_execution, taken_by, tight_question_of}
-use Rattle.cl_resp.specs.Response.{demand, busy_window}
-use Rattle.cl_resp.specs.Asked.{least_response}
-use Rattle.cl_resp.specs.ByPhase.{phase_if, released_by, time_by, demand_by, asked_by_phase, response_by_phase, response_through, IsSettledByPhase}
-use Rattle.cl_resp.specs.Inner.Phased.{asked_of, IsPhasedQuestionOf, IsPhasedInRange, ServesAnywhere}
+use Rattle.cl_resp.specs.{declared.{question.{Above.Above, Question.Question, Block.TheVariants.OfLower}, phased.PhasedQuestion.PhasedQuestion}, Clear.greatest_through, Question.{greatest_execution, taken_by, tight_question_of}, Response.{demand, busy_window}, Asked.least_response}
+use Rattle.cl_resp.specs.{ByPhase.{phase_if, released_by, time_by, demand_by, asked_by_phase, response_by_phase, response_through, IsSettledByPhase}, Inner.Phased.{asked_of, IsPhasedQuestionOf, IsPhasedInRange, ServesAnywhere}}
 use Rattle.cl_cycle.proofs.CountedMost.{most_arrivals as at_most}
-use Rattle.cl_resp.proofs.LeastParts.{settled_timely as timely, execution_in_response as execution}
-use Rattle.cl_resp.specs.declared.question.Block.TheVariants.{OfLower}
-use Rattle.cl_resp.proofs.Questions.{questions_in_range}
-use Rattle.cl_resp.proofs.Windows.{window_is_least}
-use Rattle.cl_resp.proofs.PhasedSums.{sum_mapped, takes, takes_is, above_by_number}
+use Rattle.cl_resp.proofs.{LeastParts.{settled_timely as timely, execution_in_response as execution}, Questions.questions_in_range, Windows.window_is_least, PhasedSums.{sum_mapped, takes, takes_is, above_by_number}}
 
 -- ---- what is asked
 

@@ -3,24 +3,14 @@ use Rattle.std.proofs.Common.{◌≡◌, ℕ, ◌<◌, Bool, true, false, ◌&&�
 use Rattle.std.specs.Prelude.{All, ◌==◌}
 use Rattle.std.specs.List.{filter, range_with_len}
 use Rattle.std.proofs.lemmas.List.Elements.{All-filter}
-use Rattle.cl_model.specs.declared.model.SystemModel.{SystemModel}
+use Rattle.cl_model.specs.{declared.model.SystemModel.SystemModel, ByNumber.{task_at, core_of, jitter_of, time_of, tasks_of_core}, Timing.greatest_jitter}
 use Rattle.cl_model.specs.ByNumber as tasks
-use Rattle.cl_model.specs.ByNumber.{task_at, core_of, jitter_of, time_of, tasks_of_core}
-use Rattle.cl_model.specs.Timing.{greatest_jitter}
-use Rattle.cl_model.proofs.AddedTasks.{maps_agree_on}
-use Rattle.cl_model.proofs.CoreTasks.{below_known}
-use Rattle.cl_model.proofs.MovedTasks.{filter_range}
-use Rattle.cl_runs.specs.TaskTiming.{Timing, timing_at}
-use Rattle.cl_runs.specs.SystemOf.{timing_of, system_of}
-use Rattle.cl_runs.specs.Priorities.{is_above, tasks_above}
+use Rattle.cl_model.proofs.{AddedTasks.maps_agree_on, CoreTasks.below_known, MovedTasks.filter_range}
+use Rattle.cl_runs.specs.{TaskTiming.{Timing, timing_at}, SystemOf.{timing_of, system_of}, Priorities.{is_above, tasks_above}}
 use Rattle.cl_runs.proofs.ModelSystem.{timing_is, count_is}
 use Rattle.cl_cycle.specs.Counts.{arrivals_of}
-use Rattle.cl_resp.specs.declared.question.Above.{Above}
-use Rattle.cl_resp.specs.declared.phased.InPhase.{InPhase}
-use Rattle.cl_resp.specs.Question.{greatest_execution, taken_by}
-use Rattle.cl_resp.specs.Inner.Counted.{counts, counted_above, by_phase_of, in_phase_with, beside_with}
-use Rattle.cl_resp.proofs.Filters.{filter-both}
-use Rattle.cl_resp.proofs.Questions.{is_higher, above_at, numbers_above, time_is, taken_is}
+use Rattle.cl_resp.specs.{declared.{question.Above.Above, phased.InPhase.InPhase}, Question.{greatest_execution, taken_by}, Inner.Counted.{counts, counted_above, by_phase_of, in_phase_with, beside_with}}
+use Rattle.cl_resp.proofs.{Filters.filter-both, Questions.{is_higher, above_at, numbers_above, time_is, taken_is}}
 
 -- whether another task has a higher priority and is in phase, or isn't, by number
 abbrev pub is_counted : SystemModel → (in_phase : Bool) → (cycle : List ℕ) → (task other : ℕ) → Bool

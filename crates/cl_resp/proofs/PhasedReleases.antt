@@ -8,10 +8,8 @@ use Rattle.std.proofs.lemmas.List.Elements.{All-more}
 use Rattle.std.proofs.lemmas.List.Folds.{list_any_more}
 use Rattle.cl_model.specs.declared.limits.TheConstants.{MOST_TICKS}
 use Rattle.cl_stim.specs.Phase.{IsPhase, IsArrivalOf, arrives_at, last_arrival}
-use Rattle.cl_stim.proofs.ArrivalTests.{arrives_from_test, test_from_arrival}
-use Rattle.cl_stim.proofs.PhaseSteps.{last_arrives, last_before, last_after}
-use Rattle.cl_resp.specs.declared.phased.InPhase.{InPhase}
-use Rattle.cl_resp.specs.Inner.Releases.{is_latest_release, IsLastReleaseOf, IsLaterOf}
+use Rattle.cl_stim.proofs.{ArrivalTests.{arrives_from_test, test_from_arrival}, PhaseSteps.{last_arrives, last_before, last_after}}
+use Rattle.cl_resp.specs.{declared.phased.InPhase.InPhase, Inner.Releases.{is_latest_release, IsLastReleaseOf, IsLaterOf}}
 
 -- ---- of one task
 

@@ -7,26 +7,13 @@ use Rattle.std.proofs.lemmas.List.Filters.{sum_by-filter_both}
 use Rattle.std.proofs.lemmas.List.Folds.{fold-map}
 use Rattle.std.proofs.lemmas.List.Sums.{sum-map}
 use Rattle.std.proofs.lemmas.Simd.{map-map}
-use Rattle.cl_model.specs.declared.stimulus.StimulusKind.{StimulusKind}
-use Rattle.cl_model.specs.Timing.{greatest_jitter}
+use Rattle.cl_model.specs.{declared.stimulus.StimulusKind.StimulusKind, Timing.greatest_jitter}
 use Rattle.cl_model.proofs.AddedTasks.{maps_agree_on}
-use Rattle.cl_runs.specs.TaskTiming.{Timing, System, timing_at, no_timing}
-use Rattle.cl_runs.specs.Priorities.{is_above, tasks_above}
-use Rattle.cl_stim.specs.declared.phase.Phase.{Phase}
-use Rattle.cl_stim.specs.AnyStimulus.{kind_of}
-use Rattle.cl_stim.specs.Phase.{phase_of}
-use Rattle.cl_stim.specs.Releases.{most_releases}
-use Rattle.cl_cycle.specs.Counts.{arrivals_from, arrivals_of, each_moment}
-use Rattle.cl_cycle.specs.Cycles.{is_one_of, in_phase_above, cycle_of}
-use Rattle.cl_cycle.specs.Promises.{ComesRound}
-use Rattle.cl_resp.specs.declared.question.Above.{Above}
-use Rattle.cl_resp.specs.declared.phased.InPhase.{InPhase}
-use Rattle.cl_resp.specs.Question.{greatest_execution, taken_by, tight_question_of}
-use Rattle.cl_resp.specs.ByPhase.{phase_if, released_by, time_by}
-use Rattle.cl_resp.specs.Inner.Phased.{time_in_phase}
-use Rattle.cl_resp.specs.Inner.Counted.{counts, counted_above, by_phase_of, in_phase_with, beside_with}
-use Rattle.cl_resp.proofs.Filters.{by_number, filter-map, same_pass}
-use Rattle.cl_resp.proofs.StimulusKinds.{kind_of-as_stimulus}
+use Rattle.cl_runs.specs.{TaskTiming.{Timing, System, timing_at, no_timing}, Priorities.{is_above, tasks_above}}
+use Rattle.cl_stim.specs.{declared.phase.Phase.Phase, AnyStimulus.kind_of, Phase.phase_of, Releases.most_releases}
+use Rattle.cl_cycle.specs.{Counts.{arrivals_from, arrivals_of, each_moment}, Cycles.{is_one_of, in_phase_above, cycle_of}, Promises.ComesRound}
+use Rattle.cl_resp.specs.{declared.{question.Above.Above, phased.InPhase.InPhase}, Question.{greatest_execution, taken_by, tight_question_of}, ByPhase.{phase_if, released_by, time_by}, Inner.{Phased.time_in_phase, Counted.{counts, counted_above, by_phase_of, in_phase_with, beside_with}}}
+use Rattle.cl_resp.proofs.{Filters.{by_number, filter-map, same_pass}, StimulusKinds.kind_of-as_stimulus}
 
 -- the sum over a mapped list
 pub sum_mapped : {X Y : Type 0} (f : Y → ℕ) (g : X → Y) (xs : List X) → sum_by f (map g xs) ≡ sum_by (λ x. f (g x)) xs

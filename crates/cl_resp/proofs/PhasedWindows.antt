@@ -6,10 +6,7 @@ use Rattle.std.proofs.lemmas.Bool.{cases_lt, lt-leb}
 use Rattle.std.proofs.lemmas.List.Folds.{list_any_none}
 use Rattle.std.proofs.lemmas.List.FromFn.{get_or-range_with_len, length-range_with_len}
 use Rattle.std.proofs.lemmas.List.Sums.{sum_by-le-sum_by}
-use Rattle.cl_resp.specs.declared.phased.InPhase.{InPhase}
-use Rattle.cl_resp.specs.declared.phased.PhasedQuestion.{PhasedQuestion}
-use Rattle.cl_resp.specs.Asked.{Asked, holds_within}
-use Rattle.cl_resp.specs.Inner.Phased.{asked_of, time_in_phase, NoneBefore}
+use Rattle.cl_resp.specs.{declared.phased.{InPhase.InPhase, PhasedQuestion.PhasedQuestion}, Asked.{Asked, holds_within}, Inner.Phased.{asked_of, time_in_phase, NoneBefore}}
 use Rattle.cl_cycle.proofs.CountedTicks.{wider_has as wider}
 use Rattle.cl_resp.proofs.Windows.{demand_rises}
 

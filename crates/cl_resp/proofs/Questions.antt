@@ -8,30 +8,16 @@ use Rattle.std.proofs.lemmas.List.Elements.{All-map, All-filter, filter_passes}
 use Rattle.std.proofs.lemmas.List.Folds.{fold-map}
 use Rattle.std.proofs.lemmas.List.FromFn.{length-range_with_len, get_or-range_with_len}
 use Rattle.std.proofs.lemmas.Simd.{map-map}
-use Rattle.cl_model.specs.declared.limits.TheConstants.{MOST_TICKS, MOST_DISTANCES, MOST_TASKS_OF_CORE}
-use Rattle.cl_model.specs.declared.model.SystemModel.{SystemModel}
-use Rattle.cl_model.specs.declared.stimulus.StimulusKind.{StimulusKind}
+use Rattle.cl_model.specs.{declared.{limits.TheConstants.{MOST_TICKS, MOST_DISTANCES, MOST_TASKS_OF_CORE}, model.SystemModel.SystemModel, stimulus.StimulusKind.StimulusKind}, ByNumber.{no_task, task_at, core_of, deadline_of, jitter_of, time_of, tasks_of_core}, Timing.least_distance}
+use Rattle.cl_model.specs.{Timing.greatest_jitter, Validity.IsValid, Holds.{greatest_by, runnable_hold, task_hold}}
 use Rattle.cl_model.specs.ByNumber as tasks
-use Rattle.cl_model.specs.ByNumber.{no_task, task_at, core_of, deadline_of, jitter_of, time_of, tasks_of_core}
-use Rattle.cl_model.specs.Timing.{least_distance, greatest_jitter}
-use Rattle.cl_model.specs.Validity.{IsValid}
-use Rattle.cl_model.specs.Holds.{greatest_by, runnable_hold, task_hold}
-use Rattle.cl_model.proofs.ValidTasks.{kind_in_range, early_enough, released_before, some_time, little_time, runnables_in_range}
-use Rattle.cl_model.proofs.CoreTasks.{below_known, few_tasks, few_distances}
-use Rattle.cl_runs.specs.TaskTiming.{TimeRange, Timing, timing_at}
-use Rattle.cl_runs.specs.SystemOf.{range_of, timing_of, system_of}
-use Rattle.cl_runs.specs.Priorities.{is_above}
+use Rattle.cl_model.proofs.{ValidTasks.{kind_in_range, early_enough, released_before, some_time, little_time, runnables_in_range}, CoreTasks.{below_known, few_tasks, few_distances}, ListFacts.maps_agree, Greatest.{greatest_within, greatest_agrees, greatest_mapped}}
+use Rattle.cl_runs.specs.{TaskTiming.{TimeRange, Timing, timing_at}, SystemOf.{range_of, timing_of, system_of}, Priorities.is_above}
 use Rattle.cl_runs.proofs.ModelSystem.{timing_is}
 use Rattle.cl_stim.specs.AnyStimulus.{as_stimulus}
-use Rattle.cl_resp.specs.declared.question.Block.{Block}
-use Rattle.cl_resp.specs.declared.question.Block.TheVariants.{OfLower, WithOwn}
-use Rattle.cl_resp.specs.declared.question.Above.{Above}
-use Rattle.cl_resp.specs.declared.question.Question.{Question}
-use Rattle.cl_resp.specs.Question.{greatest_execution, hold_of, longest_hold, block_of, lower_block_of, taken_by, question_of, tight_question_of, either_question, block_by, may_hold_beside, IsAboveInRange, IsQuestionInRange}
-use Rattle.cl_resp.proofs.StimulusKinds.{kind_of-as_stimulus, least_few}
-use Rattle.cl_model.proofs.ListFacts.{maps_agree}
-use Rattle.cl_resp.proofs.Filters.{by_number, filter-map, filter-both, fewer}
-use Rattle.cl_model.proofs.Greatest.{greatest_within, greatest_agrees, greatest_mapped}
+use Rattle.cl_resp.specs.{declared.question.{Block.{Block, TheVariants.{OfLower, WithOwn}}, Above.Above, Question.Question}, Question.{greatest_execution, hold_of, longest_hold, block_of, lower_block_of, taken_by, question_of, tight_question_of, either_question, block_by, may_hold_beside}}
+use Rattle.cl_resp.specs.Question.{IsAboveInRange, IsQuestionInRange}
+use Rattle.cl_resp.proofs.{StimulusKinds.{kind_of-as_stimulus, least_few}, Filters.{by_number, filter-map, filter-both, fewer}}
 
 -- whether another task has a higher priority, by number
 abbrev pub is_higher : SystemModel → (task other : ℕ) → Bool

@@ -3,16 +3,8 @@ use Rattle.std.proofs.Common.{◌≡◌, ℕ, ◌≤◌, Option, Some, None, tru
 use Rattle.std.specs.Prelude.{IfSome}
 use Rattle.std.specs.Option.{option_map}
 use Rattle.cl_model.specs.declared.limits.TheConstants.{MOST_TICKS}
-use Rattle.cl_resp.specs.declared.phased.PhasedQuestion.{PhasedQuestion}
-use Rattle.cl_resp.specs.Asked.{suffices, least_response}
-use Rattle.cl_resp.specs.Response.{busy_window}
-use Rattle.cl_resp.specs.Inner.Phased.{asked_of, IsPhasedInRange, ServesAnywhere}
-use Rattle.cl_resp.specs.Inner.Searching.{IsSearchOf}
-use Rattle.cl_resp.proofs.SettledTasks.{answer_of}
-use Rattle.cl_resp.proofs.SearchesOfCores.{none_below_settled, none_below_late}
-use Rattle.cl_resp.proofs.Windows.{window_is_least}
-use Rattle.cl_resp.proofs.SearchedStarts.{none_is_least}
-use Rattle.cl_resp.proofs.SearchedArrivals.{late_beside}
+use Rattle.cl_resp.specs.{declared.phased.PhasedQuestion.PhasedQuestion, Asked.{suffices, least_response}, Response.busy_window, Inner.{Phased.{asked_of, IsPhasedInRange, ServesAnywhere}, Searching.IsSearchOf}}
+use Rattle.cl_resp.proofs.{SettledTasks.answer_of, SearchesOfCores.{none_below_settled, none_below_late}, Windows.window_is_least, SearchedStarts.none_is_least, SearchedArrivals.late_beside}
 
 module _ (question : PhasedQuestion) (range : IsPhasedInRange question) where
   -- what a search knows at first

@@ -9,15 +9,10 @@ use Rattle.std.proofs.lemmas.Int.{ints, clamps, by_lt_z}
 use Rattle.std.proofs.lemmas.Nat.Gcd.{le_of_dvd}
 use Rattle.cl_model.specs.declared.limits.TheConstants.{MOST_TICKS}
 use Rattle.cl_stim.specs.Phase.{IsPhase, IsArrivalOf, first_arrival, last_arrival, arrives_at}
-use Rattle.cl_stim.proofs.ArrivalTests.{arrives_from_test, test_from_arrival}
-use Rattle.cl_stim.proofs.PhaseSteps.{first_arrives, first_after, first_before, first_within, last_before}
-use Rattle.cl_resp.specs.declared.phased.PhasedQuestion.{PhasedQuestion}
-use Rattle.cl_resp.specs.Asked.{Asked, holds_within, is_answered, suffices, least_response, MayBegin, EndsBy}
-use Rattle.cl_resp.specs.Inner.Phased.{asked_of, IsPhasedInRange, IsLeastFrom, ServesAnywhere}
-use Rattle.cl_resp.specs.Inner.Searching.{IsReached, NoneSuffices, AnsweredAfter, AnsweredBefore, NoneReleased, IsAfter}
-use Rattle.cl_resp.proofs.Windows.{demand_some}
-use Rattle.cl_resp.proofs.SearchedStarts.{ends_later, holds_by, none_ends_before, least_ends, answered_at, answered_from, unanswered, suffices_from, fails_at, reached_is_least}
-use Rattle.cl_resp.proofs.SearchedReleases.{ends_a_tick_earlier, holds_back, after_last}
+use Rattle.cl_stim.proofs.{ArrivalTests.{arrives_from_test, test_from_arrival}, PhaseSteps.{first_arrives, first_after, first_before, first_within, last_before}}
+use Rattle.cl_resp.specs.{declared.phased.PhasedQuestion.PhasedQuestion, Asked.{Asked, holds_within, is_answered, suffices, least_response, MayBegin, EndsBy}, Inner.{Phased.{asked_of, IsPhasedInRange, IsLeastFrom, ServesAnywhere}, Searching.{IsReached, NoneSuffices, AnsweredAfter}}}
+use Rattle.cl_resp.specs.Inner.Searching.{AnsweredBefore, NoneReleased, IsAfter}
+use Rattle.cl_resp.proofs.{Windows.demand_some, SearchedStarts.{ends_later, holds_by, none_ends_before, least_ends, answered_at, answered_from, unanswered, suffices_from, fails_at, reached_is_least}, SearchedReleases.{ends_a_tick_earlier, holds_back, after_last}}
 
 module _ (asked : Asked) (is : IsPhase asked.arrivals) where
   -- ---- what one arrival shows

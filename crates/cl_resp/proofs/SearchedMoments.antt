@@ -4,15 +4,9 @@ use Rattle.std.specs.Prelude.{Option, unwrap_or}
 use Rattle.std.proofs.lemmas.Int.{ints, by_lt_z}
 use Rattle.std.proofs.Math.IntN.{one, *ℤ-one}
 use Rattle.cl_stim.specs.Phase.{IsArrivalOf, last_arrival, arrives_at}
-use Rattle.cl_stim.proofs.ArrivalTests.{test_from_arrival}
-use Rattle.cl_stim.proofs.PhaseSteps.{last_before, last_after}
-use Rattle.cl_resp.specs.declared.phased.PhasedQuestion.{PhasedQuestion}
-use Rattle.cl_resp.specs.Asked.{suffices, MayBegin, EndsBy}
-use Rattle.cl_resp.specs.Inner.Phased.{asked_of, IsPhasedInRange, IsLeastFrom}
-use Rattle.cl_resp.specs.Inner.Searching.{AreWithin, NoneReleased, IsAfter}
-use Rattle.cl_resp.proofs.Windows.{demand_some}
-use Rattle.cl_resp.proofs.SearchedStarts.{ends_later, least_ends, answered_from, suffices_from}
-use Rattle.cl_resp.proofs.SearchedReleases.{ends_a_tick_earlier, holds_back, after_last}
+use Rattle.cl_stim.proofs.{ArrivalTests.test_from_arrival, PhaseSteps.{last_before, last_after}}
+use Rattle.cl_resp.specs.{declared.phased.PhasedQuestion.PhasedQuestion, Asked.{suffices, MayBegin, EndsBy}, Inner.{Phased.{asked_of, IsPhasedInRange, IsLeastFrom}, Searching.{AreWithin, NoneReleased, IsAfter}}}
+use Rattle.cl_resp.proofs.{Windows.demand_some, SearchedStarts.{ends_later, least_ends, answered_from, suffices_from}, SearchedReleases.{ends_a_tick_earlier, holds_back, after_last}}
 
 -- once a number is the number
 once : (z : ℤ) → (z *ℤ pos 1) ≡ z

@@ -8,12 +8,7 @@ use Rattle.std.proofs.lemmas.List.Sums.{sum_by-cons}
 use Rattle.std.proofs.Math.Nat.{mul-le-mul_right}
 use Rattle.cl_stim.specs.Phase.{arrives_at}
 use Rattle.cl_cycle.specs.Counts.{arrivals_from}
-use Rattle.cl_resp.specs.declared.phased.InPhase.{InPhase}
-use Rattle.cl_resp.specs.declared.phased.PhasedQuestion.{PhasedQuestion}
-use Rattle.cl_resp.specs.Asked.{EndsBy}
-use Rattle.cl_resp.specs.Inner.Phased.{asked_of, time_in_phase}
-use Rattle.cl_resp.specs.Inner.Releases.{IsLastReleaseBefore}
-use Rattle.cl_resp.specs.Inner.Searching.{NoneReleased, IsAfter}
+use Rattle.cl_resp.specs.{declared.phased.{InPhase.InPhase, PhasedQuestion.PhasedQuestion}, Asked.EndsBy, Inner.{Phased.{asked_of, time_in_phase}, Releases.IsLastReleaseBefore, Searching.{NoneReleased, IsAfter}}}
 use Rattle.cl_cycle.proofs.CountedTicks.{later_has as later}
 
 -- a task in phase has no latest release at a moment

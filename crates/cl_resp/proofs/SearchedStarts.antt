@@ -6,9 +6,7 @@ use Rattle.std.proofs.lemmas.Bool.{cases_lt, leb-true, le-leb}
 use Rattle.std.proofs.lemmas.Int.{ints}
 use Rattle.cl_stim.specs.Phase.{IsPhase, last_arrival, arrives_at}
 use Rattle.cl_stim.proofs.PhaseSteps.{last_before}
-use Rattle.cl_resp.specs.Asked.{Asked, holds_within, beginnings_of, is_answered, suffices, least_response, MayBegin, EndsBy}
-use Rattle.cl_resp.specs.Inner.Phased.{IsLeastFrom}
-use Rattle.cl_resp.specs.Inner.Searching.{IsReached, NoneSuffices}
+use Rattle.cl_resp.specs.{Asked.{Asked, holds_within, beginnings_of, is_answered, suffices, least_response, MayBegin, EndsBy}, Inner.{Phased.IsLeastFrom, Searching.{IsReached, NoneSuffices}}}
 use Rattle.cl_resp.proofs.SearchedLists.{all_pass, each_passes, one_passes, passing, first_is, first_is_none, all_among_pass, one_among_fails}
 
 -- how long before a moment another is

@@ -2,17 +2,11 @@
 use Rattle.std.proofs.Common.{◌≡◌, ◌≢◌, ℕ, zero, suc, ◌+◌, ◌-◌, ◌<◌, ◌≤◌, ◌&&◌, Bool, nat_eq, nat_lt, Option, Some, None, length, refl, sym, ap, ◌∙◌, arith, inl, inr}
 use Rattle.std.specs.Option.{option_map}
 use Rattle.std.proofs.lemmas.Bool.{cases_lt, eq-eqb, ne_eqb}
-use Rattle.cl_model.specs.declared.model.SystemModel.{SystemModel}
-use Rattle.cl_model.specs.declared.task.TaskDef.{TaskDef}
-use Rattle.cl_model.specs.ByNumber.{task_at, core_of}
-use Rattle.cl_runs.specs.SystemOf.{timing_of, system_of}
-use Rattle.cl_runs.specs.TaskTiming.{timing_at}
-use Rattle.cl_runs.specs.Priorities.{is_above}
+use Rattle.cl_model.specs.{declared.{model.SystemModel.SystemModel, task.TaskDef.TaskDef}, ByNumber.{task_at, core_of}}
+use Rattle.cl_runs.specs.{SystemOf.{timing_of, system_of}, TaskTiming.timing_at, Priorities.is_above}
 use Rattle.cl_runs.proofs.ModelSystem.{timing_is}
-use Rattle.cl_resp.specs.declared.question.Question.{Question}
-use Rattle.cl_resp.specs.Response.{Response, demand, busy_window, response_to, NoneServesBelow}
-use Rattle.cl_resp.proofs.SettledTasks.{answer_of, answer_parts}
-use Rattle.cl_resp.proofs.Windows.{window_is_least, no_window_holds, demand_some}
+use Rattle.cl_resp.specs.{declared.question.Question.Question, Response.{Response, demand, busy_window, response_to, NoneServesBelow}}
+use Rattle.cl_resp.proofs.{SettledTasks.{answer_of, answer_parts}, Windows.{window_is_least, no_window_holds, demand_some}}
 
 -- ---- how far a search came
 

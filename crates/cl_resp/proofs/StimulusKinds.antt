@@ -1,10 +1,6 @@
 -- What each kind of stimulus has: its stimulus is of its kind, and its distances are few ticks where it is in range.
 use Rattle.std.proofs.Common.{◌≡◌, ◌≤◌, refl, arith}
-use Rattle.cl_model.specs.declared.limits.TheConstants.{MOST_TICKS}
-use Rattle.cl_model.specs.declared.stimulus.StimulusKind.{StimulusKind}
-use Rattle.cl_model.specs.declared.stimulus.StimulusKind.TheVariants.{Periodic, Sporadic, Burst}
-use Rattle.cl_model.specs.Ranges.{IsKindInRange}
-use Rattle.cl_model.specs.Timing.{least_distance, greatest_distance}
+use Rattle.cl_model.specs.{declared.{limits.TheConstants.MOST_TICKS, stimulus.StimulusKind.{StimulusKind, TheVariants.{Periodic, Sporadic, Burst}}}, Ranges.IsKindInRange, Timing.{least_distance, greatest_distance}}
 use Rattle.cl_stim.specs.AnyStimulus.{kind_of, as_stimulus}
 
 pub kind_of-as_stimulus : (kind : StimulusKind) → kind_of (as_stimulus kind) ≡ kind

@@ -6,14 +6,9 @@ use Rattle.std.proofs.lemmas.Bool.{cases_eq, cases_lt}
 use Rattle.std.proofs.lemmas.Grind.{get_or-set_at}
 use Rattle.std.proofs.lemmas.List.{get_or-set_other, get_or-replicate, get_or_past, get_or_default, length-replicate, take_all}
 use Rattle.std.proofs.lemmas.List.Sums.{get_or-le-sum_by, sum_by_more}
-use Rattle.cl_stim.specs.declared.arrivals.TheConstants.{MOST_WIDTH}
+use Rattle.cl_stim.specs.{declared.arrivals.TheConstants.MOST_WIDTH, AnyStimulus.kind_of, Releases.most_releases}
 use Rattle.cl_stim.proofs.Releases.{most_rises}
-use Rattle.cl_stim.specs.AnyStimulus.{kind_of}
-use Rattle.cl_stim.specs.Releases.{most_releases}
-use Rattle.cl_resp.specs.declared.question.Above.{Above}
-use Rattle.cl_resp.specs.declared.question.Question.{Question}
-use Rattle.cl_resp.specs.Response.{demand}
-use Rattle.cl_resp.specs.Inner.Rising.{taken_in, AreTaken}
+use Rattle.cl_resp.specs.{declared.question.{Above.Above, Question.Question}, Response.demand, Inner.Rising.{taken_in, AreTaken}}
 
 -- a task above takes the same of each window between two that release as many
 pub takes_between : (above : Above) (narrow wide : ℕ) → most_releases (kind_of above.stimulus) wide ≡ most_releases (kind_of above.stimulus) narrow

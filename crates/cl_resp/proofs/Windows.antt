@@ -8,11 +8,8 @@ use Rattle.std.proofs.lemmas.List.Sums.{sum_by-le-sum_by}
 use Rattle.std.proofs.Math.Nat.{mul-le-mul_right}
 use Rattle.cl_runs.proofs.FirstFound.{first_found, none_passes}
 use Rattle.cl_stim.proofs.Releases.{most_rises}
-use Rattle.cl_stim.specs.AnyStimulus.{kind_of}
-use Rattle.cl_stim.specs.Releases.{most_releases}
-use Rattle.cl_resp.specs.declared.question.Above.{Above}
-use Rattle.cl_resp.specs.declared.question.Question.{Question}
-use Rattle.cl_resp.specs.Response.{demand, busy_window, IsWindow, IsLeastFixpoint, HasNoFixpoint}
+use Rattle.cl_stim.specs.{AnyStimulus.kind_of, Releases.most_releases}
+use Rattle.cl_resp.specs.{declared.question.{Above.Above, Question.Question}, Response.{demand, busy_window, IsWindow, IsLeastFixpoint, HasNoFixpoint}}
 
 -- ---- the demand never falls
 

@@ -4,18 +4,10 @@ use Rattle.std.specs.Prelude.{All, Option, Some, None, unwrap_or, MatchOption}
 use Rattle.std.proofs.lemmas.Bool.{cases_lt, true≢false}
 use Rattle.std.proofs.lemmas.Int.{ints, by_lt_z}
 use Rattle.cl_stim.specs.Phase.{IsPhase, IsArrivalOf, first_arrival, arrives_at}
-use Rattle.cl_stim.proofs.ArrivalTests.{arrives_from_test}
-use Rattle.cl_stim.proofs.PhaseSteps.{first_before}
-use Rattle.cl_resp.specs.declared.phased.InPhase.{InPhase}
-use Rattle.cl_resp.specs.declared.phased.PhasedQuestion.{PhasedQuestion}
-use Rattle.cl_resp.specs.Asked.{Asked, holds_within, suffices, MayBegin, EndsBy}
-use Rattle.cl_resp.specs.Worst.{NoneEndsBy, IsFirstUnanswered}
-use Rattle.cl_resp.specs.Inner.Phased.{asked_of, IsLeastFrom}
-use Rattle.cl_resp.specs.Inner.Releases.{IsLastReleaseBefore}
-use Rattle.cl_resp.specs.Inner.Searching.{NoneReleased}
+use Rattle.cl_stim.proofs.{ArrivalTests.arrives_from_test, PhaseSteps.first_before}
+use Rattle.cl_resp.specs.{declared.phased.{InPhase.InPhase, PhasedQuestion.PhasedQuestion}, Asked.{Asked, holds_within, suffices, MayBegin, EndsBy}, Worst.{NoneEndsBy, IsFirstUnanswered}, Inner.{Phased.{asked_of, IsLeastFrom}, Releases.IsLastReleaseBefore, Searching.NoneReleased}}
 use Rattle.cl_resp.specs.Inner.Worst.{IsAllAnswered, IsLatestUnanswered, AreAnsweredBefore}
-use Rattle.cl_resp.proofs.SearchedReleases.{ends_a_tick_earlier}
-use Rattle.cl_resp.proofs.SearchedStarts.{back_to, ends_later, holds_by, answered_from, suffices_from}
+use Rattle.cl_resp.proofs.{SearchedReleases.ends_a_tick_earlier, SearchedStarts.{back_to, ends_later, holds_by, answered_from, suffices_from}}
 
 module _ (asked : Asked) where
   -- ---- one beginning

@@ -2,22 +2,15 @@
 use Rattle.std.proofs.Common.{◌≡◌, ℕ, suc, ◌+◌, ◌<◌, ◌≤◌, Bool, true, false, ◌&&◌, ◌||◌, ℤ, pos, negsuc, ◌+ℤ◌, ◌-ℤ◌, ◌≤ℤ◌, ◌<ℤ◌, List, [], ◌∷◌, length, map, refl, sym, ap, ◌∙◌, subst, arith}
 use Rattle.std.specs.Prelude.{All, slice_index_or, nat_eq, Option, Some, None, unwrap_or, MatchOption}
 use Rattle.std.specs.List.{list_any}
-use Rattle.std.proofs.lemmas.Bool.{true≢false, lt-ltb, le-ltb, ltb-true, eqb-true, eq-eqb}
+use Rattle.std.proofs.lemmas.Bool.{true≢false, lt-ltb, ltb-true, eqb-true, eq-eqb}
 use Rattle.std.proofs.lemmas.Int.{ints, by_lt_z}
 use Rattle.std.proofs.lemmas.List.Elements.{All-head, All-tail}
 use Rattle.std.proofs.lemmas.List.Folds.{list_any_none}
 use Rattle.cl_model.specs.declared.limits.TheConstants.{MOST_TICKS}
-use Rattle.cl_stim.specs.declared.phase.Phase.{Phase}
-use Rattle.cl_stim.specs.Phase.{IsPhase, IsArrivalOf, last_arrival, arrives_at}
-use Rattle.cl_stim.proofs.ArrivalTests.{arrives_from_test, test_from_arrival}
-use Rattle.cl_stim.proofs.PhaseSteps.{last_arrives, last_before, last_after}
-use Rattle.cl_resp.specs.declared.phased.InPhase.{InPhase}
-use Rattle.cl_resp.specs.declared.phased.PhasedQuestion.{PhasedQuestion}
-use Rattle.cl_resp.specs.Asked.{EndsBy}
-use Rattle.cl_resp.specs.Worst.{NoneEndsBy, lies_in, is_released_in, PassesOrZero}
-use Rattle.cl_resp.specs.Inner.Phased.{asked_of, IsPhasedInRange}
-use Rattle.cl_resp.specs.Inner.Releases.{IsLastReleaseBefore}
-use Rattle.cl_resp.specs.Inner.Worst.{IsCandidateOf, AreCandidatesAnswered, IsLeastAfter}
+use Rattle.cl_stim.specs.{declared.phase.Phase.Phase, Phase.{IsPhase, IsArrivalOf, last_arrival, arrives_at}}
+use Rattle.cl_stim.proofs.{ArrivalTests.{arrives_from_test, test_from_arrival}, PhaseSteps.{last_arrives, last_before, last_after}}
+use Rattle.cl_resp.specs.{declared.phased.{InPhase.InPhase, PhasedQuestion.PhasedQuestion}, Asked.EndsBy, Worst.{NoneEndsBy, lies_in, is_released_in, PassesOrZero}, Inner.{Phased.{asked_of, IsPhasedInRange}, Releases.IsLastReleaseBefore, Worst.{IsCandidateOf, AreCandidatesAnswered}}}
+use Rattle.cl_resp.specs.Inner.Worst.{IsLeastAfter}
 use Rattle.cl_resp.proofs.WorstBeginnings.{never_both, none_released}
 
 -- ---- a release in the cycle
@@ -25,14 +18,6 @@ use Rattle.cl_resp.proofs.WorstBeginnings.{never_both, none_released}
 pub lies_there : (ticks : ℕ) (moment : ℤ) → pos 0 ≤ℤ moment → moment <ℤ pos ticks → lies_in ticks moment ≡ true
 lies_there ticks (pos moment) after before = lt-ltb moment ticks (omega (arith, ints, before))
 lies_there ticks (negsuc _) after before = absurd (omega (arith, ints, after))
-
-pub lies_past : (ticks : ℕ) (moment : ℤ) → pos ticks ≤ℤ moment → lies_in ticks moment ≡ false
-lies_past ticks (pos moment) past = le-ltb moment ticks (omega (arith, ints, past))
-lies_past ticks (negsuc _) past = refl
-
-pub lies_below : (ticks : ℕ) (moment : ℤ) → moment <ℤ pos 0 → lies_in ticks moment ≡ false
-lies_below ticks (pos moment) below = absurd (omega (arith, ints, below))
-lies_below ticks (negsuc _) below = refl
 
 pub not_below : (ticks : ℕ) (moment : ℤ) → lies_in ticks moment ≡ true → pos 0 ≤ℤ moment
 not_below ticks (pos moment) lies = omega (arith, ints)
@@ -81,22 +66,9 @@ released_is phase is cycle start jitter moment last there after before found a b
     by true eq = eq ∙ sym (whole true (arrives_where_last phase is moment (sym found ∙ same (eqb-true a b eq))))
     by false apart = apart ∙ sym (whole false (arrives_not phase is moment (λ here. true≢false (sym (eq-eqb a b (equal (found ∙ here))) ∙ apart))))
 
--- none is released there outside the cycle
-pub released_not : (phase : Phase) (cycle : ℕ) (start : ℤ) (jitter : ℕ) (moment : ℤ) → moment ≡ (start -ℤ pos jitter)
-    → lies_in cycle moment ≡ false → false ≡ is_released_in cycle start phase jitter
-released_not phase cycle start jitter moment there out =
-    subst (λ m. false ≡ (lies_in cycle m && arrives_at phase m)) there (sym (ap (λ b. b && arrives_at phase moment) out))
-
 -- ---- one of a list
 
 module _ {X : Type 0} (test : X → Bool) where
-  pub passes_empty : (list : List X) (start : ℤ) → list ≡ [] → start ≡ pos 0 → PassesOrZero test list start
-  passes_empty [] start none is = is
-  passes_empty (first ∷ rest) start none is = absurd (some (ap (length {A = X}) none))
-    where
-      some : suc (length rest) ≡ 0 → ⊥
-      some is = omega (arith, is)
-
   pub passes_some : (list : List X) (start : ℤ) → (list ≡ [] → ⊥) → list_any test list ≡ true → PassesOrZero test list start
   passes_some [] start some is = absurd (some refl)
   passes_some (first ∷ rest) start some is = is
@@ -206,9 +178,6 @@ module _ (question : PhasedQuestion) (within : ℕ) where
 
     reflexive : (z : ℤ) → z ≤ℤ z
     reflexive z = omega (arith, ints)
-
-    by_earlier : (found other : ℤ) → start <ℤ found → found ≤ℤ other → start <ℤ other
-    by_earlier found other after ordered = omega (arith, ints, after, ordered)
 
     weaker : (a b : ℤ) → a <ℤ b → a ≤ℤ b
     weaker a b less = omega (arith, ints, less)

@@ -9,20 +9,11 @@ use Rattle.std.proofs.lemmas.Int.{ints}
 use Rattle.std.proofs.lemmas.List.Elements.{All-head, All-tail, All-nil, All-cons}
 use Rattle.std.proofs.lemmas.Nat.{div-add-mod', mod_below}
 use Rattle.cl_stim.specs.Phase.{IsPhase, IsArrivalOf, first_arrival, arrives_at}
-use Rattle.cl_stim.proofs.ArrivalTests.{arrives_from_test, test_from_arrival}
-use Rattle.cl_stim.proofs.PhaseSteps.{first_arrives, first_after}
-use Rattle.cl_resp.specs.declared.phased.InPhase.{InPhase}
-use Rattle.cl_resp.specs.declared.phased.PhasedQuestion.{PhasedQuestion}
-use Rattle.cl_resp.specs.Asked.{suffices, EndsBy, ComesRound}
-use Rattle.cl_resp.specs.Worst.{lies_in, is_released_in, PassesOrZero}
-use Rattle.cl_resp.specs.Inner.Phased.{asked_of, IsInPhaseInRange, IsPhasedInRange}
-use Rattle.cl_resp.specs.Inner.Releases.{is_latest_release}
-use Rattle.cl_resp.specs.Inner.Worst.{IsCandidateOf, AreCandidatesAnswered}
-use Rattle.cl_resp.proofs.LeastMoved.{whole_cycles, arrives_later, arrives_earlier, ends_later as ends_moved, ends_earlier as ends_moved_back}
-use Rattle.cl_resp.proofs.SearchedStarts.{back_to, ends_later}
-use Rattle.cl_resp.proofs.SearchedReleases.{ends_a_tick_earlier}
-use Rattle.cl_resp.proofs.SearchedMoments.{moments_suffice}
-use Rattle.cl_resp.proofs.WorstCandidates.{lies_there, follows_0}
+use Rattle.cl_stim.proofs.{ArrivalTests.{arrives_from_test, test_from_arrival}, PhaseSteps.{first_arrives, first_after}}
+use Rattle.cl_resp.specs.{declared.phased.{InPhase.InPhase, PhasedQuestion.PhasedQuestion}, Asked.{suffices, EndsBy, ComesRound}, Worst.{lies_in, is_released_in, PassesOrZero}, Inner.{Phased.{asked_of, IsInPhaseInRange, IsPhasedInRange}, Releases.is_latest_release, Worst.IsCandidateOf}}
+use Rattle.cl_resp.specs.Inner.Worst.{AreCandidatesAnswered}
+use Rattle.cl_resp.proofs.{LeastMoved.{whole_cycles, arrives_later, arrives_earlier, ends_later as ends_moved, ends_earlier as ends_moved_back}, SearchedStarts.{back_to, ends_later}, SearchedReleases.ends_a_tick_earlier, SearchedMoments.moments_suffice, WorstCandidates.lies_there}
+use Rattle.cl_resp.proofs.WorstCandidates.{follows_0}
 
 -- ---- tests of a list
 

@@ -6,10 +6,7 @@ use Rattle.std.specs.Int.Signed.{lt_z}
 use Rattle.std.proofs.lemmas.Int.{ints, clamps}
 use Rattle.cl_model.specs.declared.limits.TheConstants.{MOST_TICKS}
 use Rattle.cl_stim.specs.Phase.{last_arrival}
-use Rattle.cl_resp.specs.declared.phased.PhasedQuestion.{PhasedQuestion}
-use Rattle.cl_resp.specs.Asked.{MayBegin}
-use Rattle.cl_resp.specs.Inner.Phased.{asked_of, IsPhasedInRange}
-use Rattle.cl_resp.specs.Inner.Releases.{IsLastReleaseBefore}
+use Rattle.cl_resp.specs.{declared.phased.PhasedQuestion.PhasedQuestion, Asked.MayBegin, Inner.{Phased.{asked_of, IsPhasedInRange}, Releases.IsLastReleaseBefore}}
 
 -- a number, as it is held
 abbrev pub held : ℤ → ℤ

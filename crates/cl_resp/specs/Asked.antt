@@ -3,8 +3,7 @@
 use Rattle.std.specs.Prelude.{◌≡◌, ℕ, ℤ, pos, ◌+ℤ◌, ◌-ℤ◌, ◌≤ℤ◌, ◌+◌, ◌-◌, ◌≤◌, Bool, nat_le, filter, find, Option, unsigned_abs}
 use Rattle.std.specs.Int.{◌∣◌}
 use Rattle.std.specs.List.{list_all, list_any, range_with_len}
-use Rattle.cl_stim.specs.declared.phase.Phase.{Phase}
-use Rattle.cl_stim.specs.Phase.{IsPhase, IsArrivalOf, arrives_at, last_arrival}
+use Rattle.cl_stim.specs.{declared.phase.Phase.Phase, Phase.{IsPhase, IsArrivalOf, arrives_at, last_arrival}}
 
 -- what is asked for a task: when its jobs arrive, after how many ticks all comes round, its jitter and deadline, and how
 -- many ticks are asked at most of a window of so many ticks that begins at a moment

@@ -1,7 +1,6 @@
 -- Systems in which a task, and what it waits for, takes less time.
 use Rattle.std.specs.Prelude.{◌≡◌, ℕ, ◌≤◌, true}
-use Rattle.cl_runs.specs.TaskTiming.{System, timing_at}
-use Rattle.cl_runs.specs.Priorities.{is_above}
+use Rattle.cl_runs.specs.{TaskTiming.{System, timing_at}, Priorities.is_above}
 use Rattle.cl_cycle.specs.DifferingRunnables.{DifferInRunnables}
 use Rattle.cl_resp.specs.Question.{greatest_execution, lower_block_of}
 

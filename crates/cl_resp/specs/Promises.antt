@@ -1,13 +1,7 @@
 -- What a response promises of legal runs.
 use Rattle.std.specs.Prelude.{ℕ, ◌+◌, ◌<◌, ◌≤◌, length}
-use Rattle.cl_runs.specs.TaskTiming.{System, timing_at, IsSound}
-use Rattle.cl_runs.specs.Responses.{AlwaysFinishesWithin}
-use Rattle.cl_runs.specs.Table.{job_at}
-use Rattle.cl_runs.specs.Run.{Run, jobs_of}
-use Rattle.cl_runs.specs.Legal.{IsLegal}
-use Rattle.cl_resp.specs.declared.question.Question.{Question}
-use Rattle.cl_resp.specs.Clear.{FinishesBy}
-use Rattle.cl_resp.specs.Question.{AsksEnough}
+use Rattle.cl_runs.specs.{TaskTiming.{System, timing_at, IsSound}, Responses.AlwaysFinishesWithin, Table.job_at, Run.{Run, jobs_of}, Legal.IsLegal}
+use Rattle.cl_resp.specs.{declared.question.Question.Question, Clear.FinishesBy, Question.AsksEnough}
 
 -- a response answers for a question: each job of each task of each sound system (as those of valid models are) of which
 -- the question asks enough finishes within it, in every legal run

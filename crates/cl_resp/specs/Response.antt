@@ -4,11 +4,8 @@ use Rattle.std.specs.Prelude.{◌≡◌, ◌≢◌, ℕ, ◌+◌, ◌-◌, ◌*�
 use Rattle.std.specs.List.{range_with_len}
 use Rattle.std.specs.Option.{option_map}
 use Rattle.cl_runs.specs.TaskTiming.{System, timing_at}
-use Rattle.cl_stim.specs.AnyStimulus.{kind_of}
-use Rattle.cl_stim.specs.Releases.{most_releases}
-use Rattle.cl_resp.specs.declared.question.Above.{Above}
-use Rattle.cl_resp.specs.declared.question.Question.{Question}
-use Rattle.cl_resp.specs.Question.{question_of, tight_question_of}
+use Rattle.cl_stim.specs.{AnyStimulus.kind_of, Releases.most_releases}
+use Rattle.cl_resp.specs.{declared.question.{Above.Above, Question.Question}, Question.{question_of, tight_question_of}}
 
 -- the most ticks that a job of the task and what goes before it need of a window of `width` ticks
 unfoldable pub demand : Question → (width : ℕ) → ℕ

@@ -1,10 +1,7 @@
 //! How the response of a task is found. Times are in ticks.
 ghost use Rattle.std.specs.Prelude.{◌≡◌, ◌+◌, ◌*◌, ◌^◌, ◌≤◌, Some, None, MatchResult, IfOk};
-ghost use Rattle.cl_stim.specs.AnyStimulus.{kind_of};
-ghost use Rattle.cl_stim.specs.Releases.{most_releases};
-ghost use Rattle.cl_resp.specs.Question.{IsQuestionInRange};
-ghost use Rattle.cl_resp.specs.Promises.{AnswersFor};
-ghost use Rattle.cl_resp.specs.Response.{demand, busy_window, response_to, NoneServesBelow};
+ghost use Rattle.cl_stim.specs.{AnyStimulus.kind_of, Releases.most_releases};
+ghost use Rattle.cl_resp.specs.{Question.IsQuestionInRange, Promises.AnswersFor, Response.{demand, busy_window, response_to, NoneServesBelow}};
 
 use crate::question::{Above, Question};
 use crate::rising::Rising;

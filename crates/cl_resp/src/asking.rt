@@ -1,10 +1,7 @@
 //! The question of a task of a valid model. Times are in ticks.
 ghost use Rattle.std.specs.Prelude.{◌≡◌, ◌<◌, ◌↔◌, IsTrue, length, map, filter, IfOk};
-ghost use Rattle.cl_model.specs.ByNumber.{task_at};
-ghost use Rattle.cl_model.specs.Validity.{IsValid};
-ghost use Rattle.cl_runs.specs.SystemOf.{timing_of, system_of};
-ghost use Rattle.cl_runs.specs.TaskTiming.{timing_at};
-ghost use Rattle.cl_runs.specs.Priorities.{is_above};
+ghost use Rattle.cl_model.specs.{ByNumber.task_at, Validity.IsValid};
+ghost use Rattle.cl_runs.specs.{SystemOf.{timing_of, system_of}, TaskTiming.timing_at, Priorities.is_above};
 ghost use Rattle.cl_resp.specs.Question.{may_hold_beside, block_by, taken_by, question_of, tight_question_of, either_question, IsQuestionInRange};
 
 use crate::question::{Above, Block, Question};

@@ -1,22 +1,12 @@
 //! How the response of a task by phases is found. Times are in ticks, and moments may lie before 0.
 ghost use Rattle.std.specs.Prelude.{◌≡◌, ◌+◌, ◌*◌, ◌<◌, ◌≤◌, pos, ◌+ℤ◌, ◌≤ℤ◌, ◌<ℤ◌, true, false, [], length, Some, None, MatchOption, MatchResult, IfOk, IfSome};
 ghost use Rattle.std.specs.Option.{IsSomeAnd};
-ghost use Rattle.cl_model.specs.declared.limits.TheConstants.{MOST_TICKS};
-ghost use Rattle.cl_model.specs.Validity.{IsValid};
-ghost use Rattle.cl_runs.specs.Responses.{AlwaysFinishesWithin};
-ghost use Rattle.cl_runs.specs.SystemOf.{system_of};
-ghost use Rattle.cl_runs.specs.TaskTiming.{timing_at};
-ghost use Rattle.cl_stim.specs.Integers.{IsIntegerWithin};
-ghost use Rattle.cl_stim.specs.Phase.{arrives_at};
+ghost use Rattle.cl_model.specs.{declared.limits.TheConstants.MOST_TICKS, Validity.IsValid};
+ghost use Rattle.cl_runs.specs.{Responses.AlwaysFinishesWithin, SystemOf.system_of, TaskTiming.timing_at};
+ghost use Rattle.cl_stim.specs.{Integers.IsIntegerWithin, Phase.arrives_at};
 ghost use Rattle.cl_cycle.specs.Promises.{IsCycleOf};
-ghost use Rattle.cl_resp.specs.Asked.{is_answered, suffices, least_response};
-ghost use Rattle.cl_resp.specs.ByPhase.{response_by_phase, response_through, IsSettledByPhase};
-ghost use Rattle.cl_resp.specs.Clear.{greatest_behind};
-ghost use Rattle.cl_resp.specs.Promises.{AlwaysFinishesThrough};
-ghost use Rattle.cl_resp.specs.Question.{tight_question_of, IsQuestionInRange};
-ghost use Rattle.cl_resp.specs.Response.{busy_window};
-ghost use Rattle.cl_resp.specs.Inner.Phased.{asked_of, IsPhasedInRange, ServesAnywhere};
-ghost use Rattle.cl_resp.specs.Inner.Searching.{IsSearchOf, IsReached, NoneSuffices};
+ghost use Rattle.cl_resp.specs.{Asked.{is_answered, suffices, least_response}, ByPhase.{response_by_phase, response_through, IsSettledByPhase}, Clear.greatest_behind, Promises.AlwaysFinishesThrough, Question.{tight_question_of, IsQuestionInRange}, Response.busy_window};
+ghost use Rattle.cl_resp.specs.Inner.{Phased.{asked_of, IsPhasedInRange, ServesAnywhere}, Searching.{IsSearchOf, IsReached, NoneSuffices}};
 
 use crate::answering::settle;
 use crate::asking::ask_tight;

@@ -2,11 +2,8 @@
 //! anew what stays the same. Times are in ticks, and moments may lie before 0.
 ghost use Rattle.std.specs.Prelude.{◌≡◌, ℕ, ℤ, ◌*◌, ◌^◌, ◌<◌, ◌≤◌, List, MatchOption, IfSome, sum_by};
 ghost use Rattle.cl_model.specs.declared.limits.TheConstants.{MOST_RUNNABLES};
-ghost use Rattle.cl_stim.specs.Phase.{IsPhaseInRange};
-ghost use Rattle.cl_stim.specs.Integers.{IsIntegerWithin};
-ghost use Rattle.cl_resp.specs.declared.phased.InPhase.{InPhase};
-ghost use Rattle.cl_resp.specs.Inner.Phased.{time_in_phase, IsPhasedInRange};
-ghost use Rattle.cl_resp.specs.Inner.Rising.{taken_from, AreTaken};
+ghost use Rattle.cl_stim.specs.{Phase.IsPhaseInRange, Integers.IsIntegerWithin};
+ghost use Rattle.cl_resp.specs.{declared.phased.InPhase.InPhase, Inner.{Phased.{time_in_phase, IsPhasedInRange}, Rising.{taken_from, AreTaken}}};
 
 use crate::phased::{InPhase, PhasedQuestion};
 use cl_cycle::arrivals_from;

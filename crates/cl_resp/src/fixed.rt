@@ -1,11 +1,8 @@
 //! Windows that begin at fixed moments. Times are in ticks, and moments may lie before 0.
 ghost use Rattle.std.specs.Prelude.{◌≡◌, pos, ◌+ℤ◌, ◌-ℤ◌, ◌≤ℤ◌, ◌<◌, ◌≤◌, ◌*◌, false, [], nat_le, MatchOption};
 ghost use Rattle.cl_model.specs.declared.limits.TheConstants.{MOST_TICKS};
-ghost use Rattle.cl_stim.specs.Phase.{IsPhaseInRange};
-ghost use Rattle.cl_stim.specs.Integers.{IsIntegerWithin};
-ghost use Rattle.cl_resp.specs.Asked.{holds_within};
-ghost use Rattle.cl_resp.specs.Inner.Phased.{asked_of, IsPhasedInRange, NoneBefore, IsLeastFrom};
-ghost use Rattle.cl_resp.specs.Inner.Releases.{IsLaterOf, IsLastReleaseOf, IsLastReleaseBefore};
+ghost use Rattle.cl_stim.specs.{Phase.IsPhaseInRange, Integers.IsIntegerWithin};
+ghost use Rattle.cl_resp.specs.{Asked.holds_within, Inner.{Phased.{asked_of, IsPhasedInRange, NoneBefore, IsLeastFrom}, Releases.{IsLaterOf, IsLastReleaseOf, IsLastReleaseBefore}}};
 
 use crate::answering::small_demand;
 use crate::counted::{Counted, time_in_phase};

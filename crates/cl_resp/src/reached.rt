@@ -2,13 +2,8 @@
 ghost use Rattle.std.specs.Prelude.{◌≡◌, ◌+◌, ◌<◌, Some, None, length, map, IfSome, IfOk, MatchResult, IsPermutation};
 ghost use Rattle.std.specs.List.{range_with_len};
 ghost use Rattle.cl_model.specs.Validity.{IsValid};
-ghost use Rattle.cl_runs.specs.SystemOf.{system_of};
-ghost use Rattle.cl_runs.specs.TaskTiming.{timing_at};
-ghost use Rattle.cl_runs.specs.Priorities.{is_above};
-ghost use Rattle.cl_resp.specs.Promises.{AnswersFor};
-ghost use Rattle.cl_resp.specs.Question.{either_question, IsQuestionInRange};
-ghost use Rattle.cl_resp.specs.Reached.{HasReached};
-ghost use Rattle.cl_resp.specs.Response.{response_to, NoneServesBelow};
+ghost use Rattle.cl_runs.specs.{SystemOf.system_of, TaskTiming.timing_at, Priorities.is_above};
+ghost use Rattle.cl_resp.specs.{Promises.AnswersFor, Question.{either_question, IsQuestionInRange}, Reached.HasReached, Response.{response_to, NoneServesBelow}};
 
 use crate::answering::respond_from;
 use crate::question::{Block, Question};

@@ -2,10 +2,7 @@
 //! ticks.
 ghost use Rattle.std.specs.Prelude.{◌≡◌, ℕ, ◌+◌, ◌*◌, ◌<◌, ◌≤◌, List, MatchOption, IfSome};
 ghost use Rattle.cl_model.specs.declared.limits.TheConstants.{MOST_RUNNABLES};
-ghost use Rattle.cl_resp.specs.declared.question.Above.{Above};
-ghost use Rattle.cl_resp.specs.Question.{IsQuestionInRange};
-ghost use Rattle.cl_resp.specs.Response.{demand};
-ghost use Rattle.cl_resp.specs.Inner.Rising.{taken_in, AreTaken};
+ghost use Rattle.cl_resp.specs.{declared.question.Above.Above, Question.IsQuestionInRange, Response.demand, Inner.Rising.{taken_in, AreTaken}};
 
 use crate::answering::taken;
 use crate::question::Question;

@@ -1,22 +1,12 @@
 -- Two runs that are alike on the core of each group have the same chains of these groups.
 use Rattle.std.proofs.Common.{ℕ, suc, ◌+◌, ◌-◌, ◌<◌, ◌↔◌, List, length, arith, ◌∙◌}
 use Rattle.std.specs.Prelude.{slice_index}
-use Rattle.cl_model.specs.declared.chain.LengthKind.{LengthKind}
-use Rattle.cl_model.specs.declared.chain.LengthKind.TheVariants.{Reaction, Age, Reduced}
-use Rattle.cl_model.specs.declared.chain.RequirementKind.{RequirementKind}
-use Rattle.cl_model.specs.declared.chain.RequirementKind.TheVariants.{Length, Delay}
-use Rattle.cl_model.specs.declared.group.Group.{Group}
-use Rattle.cl_model.specs.Groups.{group_at}
-use Rattle.cl_runs.specs.TaskTiming.{System, timing_at}
-use Rattle.cl_runs.specs.Run.{Run}
-use Rattle.cl_runs.specs.Chains.{Moments, HasWritten, IsEarliestReader, IsLatestWriter, JobChain, first_group, first_job, last_job, IsForwardChain, AreBackwardLinks, IsAgeChain, IsReducedChain}
-use Rattle.cl_runs.specs.RunChains.{run_moments}
-use Rattle.cl_runs.specs.Delays.{IsDelayChain}
+use Rattle.cl_model.specs.{declared.{chain.{LengthKind.{LengthKind, TheVariants.{Reaction, Age, Reduced}}, RequirementKind.{RequirementKind, TheVariants.{Length, Delay}}}, group.Group.Group}, Groups.group_at}
+use Rattle.cl_runs.specs.{TaskTiming.{System, timing_at}, Run.Run, Chains.{Moments, HasWritten, IsEarliestReader, IsLatestWriter, JobChain, first_group, first_job, last_job, IsForwardChain, AreBackwardLinks, IsAgeChain, IsReducedChain}, RunChains.run_moments, Delays.IsDelayChain}
 use Rattle.cl_runs.specs.Requirements.{IsChainOfKind, IsChainRequired}
 use Rattle.cl_runs.proofs.LegalFacts.{place_of_task}
 use Rattle.cl_run_data.specs.Parts.{AreAlikeOn}
-use Rattle.cl_run_data.proofs.AlikeRuns.{alike_back}
-use Rattle.cl_run_data.proofs.AlikeMoments.{arrival_alike, reads_alike, writes_alike}
+use Rattle.cl_run_data.proofs.{AlikeRuns.alike_back, AlikeMoments.{arrival_alike, reads_alike, writes_alike}}
 
 -- two sorts of moments are the same for some groups
 pub record AreSameFor (groups : List Group) (one other : Moments) : Type 0 where
@@ -112,16 +102,6 @@ module _ (system : System) (groups : List Group) (one other : Run) (all : AreAli
     reads_back = λ place job tick h. reads_alike system (group_at groups place).task other one (back.alike place h) job (group_at groups place).first tick;
     writes_back = λ place job tick h. writes_alike system (group_at groups place).task other one (back.alike place h) job (group_at groups place).last tick;
   }
-
-  -- and their chains
-  pub forward_alike : (chain : JobChain) → IsForwardChain (run_moments system one) groups chain → IsForwardChain (run_moments system other) groups chain
-  forward_alike = forward_same groups (run_moments system one) (run_moments system other) run_moments_same
-
-  pub age_alike : (chain : JobChain) → IsAgeChain (run_moments system one) groups chain → IsAgeChain (run_moments system other) groups chain
-  age_alike = age_same groups (run_moments system one) (run_moments system other) run_moments_same
-
-  pub reduced_alike : (chain : JobChain) → IsReducedChain (run_moments system one) groups chain → IsReducedChain (run_moments system other) groups chain
-  reduced_alike = reduced_same groups (run_moments system one) (run_moments system other) run_moments_same
 
   first_task : (job : ℕ) → HasWritten (run_moments system one) (first_group groups) job → (first_group groups).task < length system.tasks
   unfolding run_moments

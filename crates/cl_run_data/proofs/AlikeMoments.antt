@@ -1,14 +1,8 @@
 -- Two runs that are alike on the core of a task have the same moments of it: what it starts, finishes, reads or writes in
 -- one it does in the other. (For the other way take `alike_back`, of AlikeRuns.)
 use Rattle.std.proofs.Common.{◌≡◌, ℕ, ◌-◌, ◌<◌, List, length, refl, sym, ap, ◌∙◌, arith}
-use Rattle.cl_model.specs.declared.task.AccessKind.{AccessKind}
-use Rattle.cl_model.specs.declared.task.AccessKind.TheVariants.{Explicit, Implicit, Timed}
-use Rattle.cl_runs.specs.declared.job.Job.{Job}
-use Rattle.cl_runs.specs.TaskTiming.{System, timing_at}
-use Rattle.cl_runs.specs.Table.{job_at}
-use Rattle.cl_runs.specs.Work.{work_before, work_through}
-use Rattle.cl_runs.specs.Run.{Run, jobs_of, executed}
-use Rattle.cl_runs.specs.Moments.{Executes, Starts, Finishes, HasStartedBefore, JobStarts, JobFinishes, WritesAtDeadline, ReadsBy, WritesBy, Reads, Writes, HasReadBefore}
+use Rattle.cl_model.specs.declared.task.AccessKind.{AccessKind, TheVariants.{Explicit, Implicit, Timed}}
+use Rattle.cl_runs.specs.{declared.job.Job.Job, TaskTiming.{System, timing_at}, Table.job_at, Work.{work_before, work_through}, Run.{Run, jobs_of, executed}, Moments.{Starts, Finishes, JobFinishes, WritesAtDeadline, ReadsBy, WritesBy, Reads, Writes}}
 use Rattle.cl_runs.proofs.LegalFacts.{place_of_task}
 use Rattle.cl_run_data.specs.Parts.{AreAlikeOn}
 use Rattle.cl_run_data.proofs.AlikeRuns.{entry_alike, executed_alike}
@@ -39,18 +33,6 @@ module _ (system : System) (task : ℕ) (one other : Run) (alike : AreAlikeOn sy
 
   -- ---- moments
 
-  pub executes_alike : (job place tick : ℕ) → Executes system one task job place tick → Executes system other task job place tick
-  executes_alike job place tick executes =
-      let same = jobs_of_place place executes.is_runnable in
-      record {
-        in_table = job_alike job same executes.in_table;
-        is_runnable = executes.is_runnable;
-        below_end = omega (arith, executes.below_end, alike.ticks);
-        runs = sym (entry_alike system _ one other alike tick) ∙ executes.runs;
-        begun = omega (arith, executes.begun, done_alike tick, before_alike job place same);
-        unfinished = omega (arith, executes.unfinished, done_alike tick, through_alike job place same);
-      }
-
   pub starts_alike : (job place moment : ℕ) → Starts system one task job place moment → Starts system other task job place moment
   starts_alike job place moment starts =
       let same = jobs_of_place place starts.is_runnable in
@@ -72,16 +54,6 @@ module _ (system : System) (task : ℕ) (one other : Run) (alike : AreAlikeOn sy
         reached = sym (done_alike moment) ∙ finishes.reached ∙ through_alike job place same;
         least = λ s is. finishes.least s (done_alike s ∙ is ∙ sym (through_alike job place same));
       }
-
-  pub started_before_alike : (job place moment : ℕ) → HasStartedBefore system one task job place moment → HasStartedBefore system other task job place moment
-  started_before_alike job place moment started = record {
-    start = started.start;
-    before = started.before;
-    starts = starts_alike job place started.start started.starts;
-  }
-
-  pub job_starts_alike : (job moment : ℕ) → JobStarts system one task job moment → JobStarts system other task job moment
-  job_starts_alike job moment starts = starts_alike job 0 moment starts
 
   pub job_finishes_alike : (job moment : ℕ) → JobFinishes system one task job moment → JobFinishes system other task job moment
   job_finishes_alike job moment finishes = finishes_alike job (length (timing_at system task).ranges - 1) moment finishes
@@ -119,11 +91,4 @@ module _ (system : System) (task : ℕ) (one other : Run) (alike : AreAlikeOn sy
     in_table = job_alike job (jobs_of_place place writes.is_runnable) writes.in_table;
     is_runnable = writes.is_runnable;
     moment = write_alike (timing_at system task).access job place tick writes.moment;
-  }
-
-  pub read_before_alike : (job place moment : ℕ) → HasReadBefore system one task job place moment → HasReadBefore system other task job place moment
-  read_before_alike job place moment read = record {
-    read = read.read;
-    before = read.before;
-    reads = reads_alike job place read.read read.reads;
   }

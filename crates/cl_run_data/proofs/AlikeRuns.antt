@@ -1,13 +1,8 @@
 -- Two runs that are alike on a core: its tasks execute the same there, and what is scheduled in one is scheduled in the
 -- other.
 use Rattle.std.proofs.Common.{◌≡◌, ℕ, Option, None, List, get_or, take, refl, sym, ap, ◌∙◌, subst}
-use Rattle.cl_runs.specs.declared.job.Job.{Job}
-use Rattle.cl_runs.specs.TaskTiming.{System, timing_at}
-use Rattle.cl_runs.specs.Run.{Run, core_entries, entry_at, executed}
-use Rattle.cl_runs.specs.Legal.{released, IsScheduled}
-use Rattle.cl_runs.proofs.Executed.{executed_same}
-use Rattle.cl_runs.proofs.HeldTasks.{held_moved}
-use Rattle.cl_runs.proofs.Scheduling.{AreAlike, scheduled_alike}
+use Rattle.cl_runs.specs.{declared.job.Job.Job, TaskTiming.{System, timing_at}, Run.{Run, core_entries, entry_at, executed}, Legal.{released, IsScheduled}}
+use Rattle.cl_runs.proofs.{Executed.executed_same, HeldTasks.held_moved, Scheduling.{AreAlike, scheduled_alike}}
 use Rattle.cl_run_data.specs.Parts.{AreAlikeOn}
 
 -- a run is like itself on each core

@@ -1,14 +1,9 @@
 -- What a run shows: a legal run shows all, and a run that is legal on some cores shows the tasks of these.
 use Rattle.std.proofs.Common.{◌≡◌, ℕ, ◌<◌, Bool, true, List, length}
-use Rattle.cl_model.specs.declared.group.Group.{Group}
-use Rattle.cl_model.specs.Groups.{no_group, group_at}
-use Rattle.cl_runs.specs.TaskTiming.{System, timing_at, IsSound}
-use Rattle.cl_runs.specs.Run.{Run}
-use Rattle.cl_runs.specs.Legal.{IsLegal}
-use Rattle.cl_runs.specs.MomentOrder.{AreGroupsOf}
+use Rattle.cl_model.specs.{declared.group.Group.Group, Groups.{no_group, group_at}}
+use Rattle.cl_runs.specs.{TaskTiming.{System, timing_at, IsSound}, Run.Run, Legal.IsLegal, MomentOrder.AreGroupsOf}
 use Rattle.cl_run_data.specs.Parts.{is_among, IsLegalOn, HasWhole, ShowsTask, ShowsGroups}
-use Rattle.cl_run_data.proofs.AlikeRuns.{alike_same}
-use Rattle.cl_run_data.proofs.Wholes.{has_whole}
+use Rattle.cl_run_data.proofs.{AlikeRuns.alike_same, Wholes.has_whole}
 
 -- a legal run shows each of its tasks
 pub legal_shows_task : (system : System) (task : ℕ) (run : Run) → IsLegal system run → ShowsTask system task run

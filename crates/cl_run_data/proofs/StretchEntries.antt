@@ -1,9 +1,7 @@
 -- What stands in the ticks of a stretch, and where the last one ends.
 use Rattle.std.proofs.Common.{◌≡◌, ℕ, zero, suc, ◌<◌, ◌≤◌, inl, inr, Option, None, List, length, get_or, ap, sym, ◌∙◌, arith}
 use Rattle.std.proofs.lemmas.Bool.{cases_lt}
-use Rattle.cl_run_data.specs.declared.stretches.Stretch.{Stretch}
-use Rattle.cl_run_data.specs.Stretches.{AreStretchesOf, LastsFrom}
-use Rattle.cl_run_data.specs.Inner.StretchPlaces.{IsStretchOf}
+use Rattle.cl_run_data.specs.{declared.stretches.Stretch.Stretch, Stretches.{AreStretchesOf, LastsFrom}, Inner.StretchPlaces.IsStretchOf}
 use Rattle.cl_run_data.proofs.StretchFacts.{length-entries, end_at_last, ends_after, ends_rise, entry_of_stretch}
 
 module _ (entries : List (Option ℕ)) (ss : List Stretch) (of : AreStretchesOf entries ss) (k start end : ℕ) (lasts : LastsFrom ss k start end) where

@@ -4,9 +4,7 @@ use Rattle.std.specs.List.Sorted.{IsNonDecreasingBy}
 use Rattle.std.specs.Option.{option_eq}
 use Rattle.std.proofs.lemmas.Bool.{cases_lt, eqb-true, eqb-false, true≢false, false≢true}
 use Rattle.std.proofs.lemmas.List.{append-nil, length-replicate, get_or-replicate, get_or_append_left, get_or-append_right, get_or_default, replicate-append-replicate}
-use Rattle.cl_run_data.specs.declared.stretches.Stretch.{Stretch}
-use Rattle.cl_run_data.specs.Stretches.{entries_from, AreLongest, IsStretchEnd}
-use Rattle.cl_run_data.specs.Inner.StretchPlaces.{end_from, IsStretchOf}
+use Rattle.cl_run_data.specs.{declared.stretches.Stretch.Stretch, Stretches.{entries_from, AreLongest, IsStretchEnd}, Inner.StretchPlaces.{end_from, IsStretchOf}}
 
 -- the first stretch is longer than nothing, and the others are longest after it
 pub head_of : (from : ℕ) (s : Stretch) (ss : List Stretch) → AreLongest from (s ∷ ss) → from < s.end

@@ -2,14 +2,8 @@
 -- any legal run of as many ticks elsewhere.
 use Rattle.std.proofs.Common.{◌≡◌, ℕ, ◌<◌, inl, inr, Option, Bool, true, false, cond, List, [], length, sym, ap, ◌∙◌, subst}
 use Rattle.std.proofs.lemmas.Bool.{cases_Bool, cond-true, cond-false}
-use Rattle.cl_runs.specs.declared.job.Job.{Job}
-use Rattle.cl_runs.specs.TaskTiming.{System, timing_at, IsSound}
-use Rattle.cl_runs.specs.Table.{AreLawfulJobs, IsLawful}
-use Rattle.cl_runs.specs.Run.{Run, jobs_of, core_entries, entry_at, executed}
-use Rattle.cl_runs.specs.Legal.{IsScheduled, IsLegal}
-use Rattle.cl_runs.proofs.NextTable.{listed, length-listed, get_or-listed}
-use Rattle.cl_runs.proofs.Filling.{legal_from}
-use Rattle.cl_runs.proofs.Extension.{some_legal}
+use Rattle.cl_runs.specs.{declared.job.Job.Job, TaskTiming.{System, timing_at, IsSound}, Table.{AreLawfulJobs, IsLawful}, Run.{Run, jobs_of, core_entries, entry_at, executed}, Legal.{IsScheduled, IsLegal}}
+use Rattle.cl_runs.proofs.{NextTable.{listed, length-listed, get_or-listed}, Filling.legal_from, Extension.some_legal}
 use Rattle.cl_run_data.specs.Parts.{is_among, IsLegalOn, AreAlikeOn, HasWhole}
 use Rattle.cl_run_data.proofs.AlikeRuns.{scheduled_moved}
 

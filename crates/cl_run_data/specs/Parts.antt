@@ -1,12 +1,7 @@
 -- Runs of some cores alone, whose other cores idle. What they show of a task is so in a legal run of the whole system.
 use Rattle.std.specs.Prelude.{◌≡◌, ℕ, ◌<◌, Bool, true, false, List, [], length, slice_index_or}
-use Rattle.cl_model.specs.declared.group.Group.{Group}
-use Rattle.cl_model.specs.Groups.{group_at}
-use Rattle.cl_runs.specs.TaskTiming.{System, timing_at}
-use Rattle.cl_runs.specs.declared.job.JobTable.{JobTable}
-use Rattle.cl_runs.specs.Table.{table_jobs, AreLawfulJobs}
-use Rattle.cl_runs.specs.Run.{Run, jobs_of, core_entries, entry_at, executed, IsInForm}
-use Rattle.cl_runs.specs.Legal.{IsScheduled, IsLegal}
+use Rattle.cl_model.specs.{declared.group.Group.Group, Groups.group_at}
+use Rattle.cl_runs.specs.{TaskTiming.{System, timing_at}, declared.job.JobTable.JobTable, Table.{table_jobs, AreLawfulJobs}, Run.{Run, jobs_of, core_entries, entry_at, executed, IsInForm}, Legal.{IsScheduled, IsLegal}}
 
 -- whether a core is among some, which are marked by their numbers
 abbrev pub is_among : (cores : List Bool) → (core : ℕ) → Bool

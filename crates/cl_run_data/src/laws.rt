@@ -1,8 +1,7 @@
 //! The longest stretches of a list of entries are determined by the entries, and hold them; and runs
 //! of some cores are parts of legal runs.
 ghost use Rattle.std.specs.Prelude.{◌≡◌, ℕ, suc, Option, None, ◌<◌, ◌≤◌, List, length, slice_index_or};
-ghost use Rattle.cl_run_data.specs.declared.stretches.Stretch.{Stretch};
-ghost use Rattle.cl_run_data.specs.Stretches.{AreStretchesOf, LastsFrom};
+ghost use Rattle.cl_run_data.specs.{declared.stretches.Stretch.Stretch, Stretches.{AreStretchesOf, LastsFrom}};
 
 pub mod parts;
 

@@ -1,8 +1,7 @@
 //! The entries of one core, kept as longest stretches of one entry. A long stretch takes no more
 //! memory than a short one.
 ghost use Rattle.std.specs.Prelude.{◌≡◌, ◌+◌, ◌-◌, ◌^◌, ◌<◌, [], ◌++◌, length, replicate, slice_index_or, OnOk, OnErr};
-ghost use Rattle.cl_run_data.specs.Stretches.{entries_from, AreLongest, AreStretchesOf, IsStretchEnd};
-ghost use Rattle.cl_run_data.specs.Inner.StretchPlaces.{end_from, IsStretchOf};
+ghost use Rattle.cl_run_data.specs.{Stretches.{entries_from, AreLongest, AreStretchesOf, IsStretchEnd}, Inner.StretchPlaces.{end_from, IsStretchOf}};
 
 use cl_time::NoMemory;
 use std::alloc::Global;

@@ -2,19 +2,9 @@
 use Rattle.std.proofs.Common.{◌≡◌, ℕ, suc, ◌<◌, ◌≤◌, inl, inr, Option, Some, None, List, length, get_or, take, sym, ap, ◌∙◌, arith}
 use Rattle.std.proofs.lemmas.Bool.{cases_lt}
 use Rattle.std.proofs.lemmas.List.{take-take, get_or-take}
-use Rattle.cl_model.specs.declared.task.AccessKind.{AccessKind}
-use Rattle.cl_model.specs.declared.task.AccessKind.TheVariants.{Explicit, Implicit, Timed}
-use Rattle.cl_runs.specs.TaskTiming.{System, timing_at, IsSound}
-use Rattle.cl_runs.specs.declared.job.Job.{Job}
-use Rattle.cl_runs.specs.Table.{job_at}
-use Rattle.cl_runs.specs.Run.{Run, jobs_of, core_entries, entry_at, executed}
-use Rattle.cl_runs.specs.Legal.{IsLegal}
-use Rattle.cl_runs.specs.Work.{work_before, work_through}
-use Rattle.cl_runs.specs.Moments.{Starts, Finishes, ReadsBy, WritesBy, Reads, Writes}
-use Rattle.cl_runs.specs.GoesOn.{GoesOn}
-use Rattle.cl_runs.proofs.Executed.{executed_same, executed_more}
-use Rattle.cl_runs.proofs.Work.{job_along, work_along, through_along, before_further, first_length}
-use Rattle.cl_runs.proofs.LegalFacts.{place_of_task, core_ticks, executed_total, time_positive}
+use Rattle.cl_model.specs.declared.task.AccessKind.{AccessKind, TheVariants.{Explicit, Implicit, Timed}}
+use Rattle.cl_runs.specs.{TaskTiming.{System, timing_at, IsSound}, declared.job.Job.Job, Table.job_at, Run.{Run, jobs_of, core_entries, entry_at, executed}, Legal.IsLegal, Work.{work_before, work_through}, Moments.{Starts, Finishes, ReadsBy, WritesBy, Reads, Writes}, GoesOn.GoesOn}
+use Rattle.cl_runs.proofs.{Executed.{executed_same, executed_more}, Work.{job_along, work_along, through_along, before_further, first_length}, LegalFacts.{place_of_task, core_ticks, executed_total, time_positive}}
 
 -- executed ticks and entries agree
 module _ (system : System) (shorter longer : Run) (goes_on : GoesOn shorter longer) (i : ℕ) where

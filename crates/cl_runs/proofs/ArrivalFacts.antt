@@ -1,12 +1,8 @@
 -- What holds of the jobs that follow a pattern: how far their arrivals lie apart, and that none is missing.
 use Rattle.std.proofs.Common.{◌≡◌, ℕ, zero, suc, ◌+◌, ◌<◌, ◌≤◌, inl, inr, List, [], ◌∷◌, length, arith}
 use Rattle.std.proofs.lemmas.Bool.{cases_lt}
-use Rattle.cl_model.specs.declared.stimulus.StimulusKind.{StimulusKind}
-use Rattle.cl_model.specs.Timing.{least_distance, greatest_distance, greatest_jitter}
-use Rattle.cl_runs.specs.declared.job.Job.{Job}
-use Rattle.cl_runs.specs.Pattern.{IsPattern}
-use Rattle.cl_runs.specs.Arrivals.{IsArrival, AreArrivalsFrom, FollowPattern}
-use Rattle.cl_runs.specs.Table.{job_at}
+use Rattle.cl_model.specs.{declared.stimulus.StimulusKind.StimulusKind, Timing.{least_distance, greatest_distance, greatest_jitter}}
+use Rattle.cl_runs.specs.{declared.job.Job.Job, Pattern.IsPattern, Arrivals.{IsArrival, AreArrivalsFrom, FollowPattern}, Table.job_at}
 use Rattle.cl_runs.proofs.PatternFacts.{distance_positive, least_within, greatest_within}
 
 -- an arrival is one whose tick lies in some interval

@@ -2,16 +2,9 @@
 use Rattle.std.proofs.Common.{◌≡◌, ℕ, suc, ◌+◌, ◌*◌, ◌/◌, ◌%◌, ◌<◌, ◌≤◌, inl, inr, List, length, sym, ap, subst, arith}
 use Rattle.std.proofs.lemmas.Bool.{cases_lt}
 use Rattle.std.proofs.lemmas.Nat.{div-add-mod'}
-use Rattle.cl_model.specs.declared.stimulus.StimulusKind.{StimulusKind}
-use Rattle.cl_model.specs.declared.stimulus.StimulusKind.TheVariants.{Burst}
-use Rattle.cl_runs.specs.declared.job.Job.{Job}
-use Rattle.cl_runs.specs.Pattern.{IsPattern, burst_gap}
-use Rattle.cl_runs.specs.Arrivals.{IsArrival, FollowPattern}
-use Rattle.cl_runs.specs.Table.{job_at}
-use Rattle.cl_runs.specs.ArrivalsByKind.{FollowsBursts}
-use Rattle.cl_runs.proofs.ArrivalFacts.{arrivals_rise}
-use Rattle.cl_runs.proofs.BurstPlaces.{place_in, position_of, position_place, position_gap}
-use Rattle.cl_runs.proofs.ExactArrivals.{moved, job_moved, exact_each, exact_end, exact_back}
+use Rattle.cl_model.specs.declared.stimulus.StimulusKind.{StimulusKind, TheVariants.Burst}
+use Rattle.cl_runs.specs.{declared.job.Job.Job, Pattern.{IsPattern, burst_gap}, Arrivals.{IsArrival, FollowPattern}, Table.job_at, ArrivalsByKind.FollowsBursts}
+use Rattle.cl_runs.proofs.{ArrivalFacts.arrivals_rise, BurstPlaces.{place_in, position_of, position_place, position_gap}, ExactArrivals.{moved, job_moved, exact_each, exact_end, exact_back}}
 
 module _ (ticks period offset count distance : ℕ) (well : IsPattern (Burst period offset count distance)) where
   abbrev pattern : StimulusKind

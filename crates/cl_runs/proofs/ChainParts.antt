@@ -2,12 +2,8 @@
 use Rattle.std.proofs.Common.{◌≡◌, ℕ, suc, ◌+◌, ◌-◌, ◌<◌, ◌≤◌, List, length, take, drop, sym, ap, ◌∙◌, subst, arith}
 use Rattle.std.specs.Prelude.{slice_index}
 use Rattle.std.proofs.lemmas.List.{length-drop, length-take-le, get_or-drop, get_or-take}
-use Rattle.cl_model.specs.declared.group.Group.{Group}
-use Rattle.cl_model.specs.Groups.{no_group, group_at}
-use Rattle.cl_runs.specs.Chains.{Moments, HasWritten, IsEarliestReader, JobChain, IsForwardChain}
-use Rattle.cl_runs.specs.Run.{Run}
-use Rattle.cl_runs.specs.RunChains.{run_moments}
-use Rattle.cl_runs.specs.TaskTiming.{System}
+use Rattle.cl_model.specs.{declared.group.Group.Group, Groups.{no_group, group_at}}
+use Rattle.cl_runs.specs.{Chains.{Moments, HasWritten, IsEarliestReader, JobChain, IsForwardChain}, Run.Run, RunChains.run_moments, TaskTiming.System}
 
 -- of groups and jobs that are the same
 module _ (moments : Moments) where

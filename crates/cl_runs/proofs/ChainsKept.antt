@@ -2,16 +2,10 @@
 use Rattle.std.proofs.Common.{ℕ, suc, ◌+◌, ◌-◌, ◌<◌, ◌≤◌, inl, inr, List, length, arith}
 use Rattle.std.specs.Prelude.{slice_index}
 use Rattle.std.proofs.lemmas.Bool.{cases_lt}
-use Rattle.cl_runs.specs.TaskTiming.{System, IsSound}
-use Rattle.cl_runs.specs.Run.{Run}
-use Rattle.cl_runs.specs.Legal.{IsLegal}
-use Rattle.cl_runs.specs.GoesOn.{GoesOn}
-use Rattle.cl_model.specs.declared.group.Group.{Group}
-use Rattle.cl_model.specs.Groups.{group_at}
-use Rattle.cl_runs.specs.Chains.{Moments, HasWritten, IsEarliestReader, IsLatestWriter, JobChain, first_group, last_group, first_job, last_job, IsForwardChain, AreBackwardLinks, IsAgeChain, IsReducedChain}
+use Rattle.cl_runs.specs.{TaskTiming.{System, IsSound}, Run.Run, Legal.IsLegal, GoesOn.GoesOn, Chains.{Moments, HasWritten, IsEarliestReader, IsLatestWriter, JobChain, first_group, last_group, first_job, last_job, IsForwardChain, AreBackwardLinks, IsAgeChain, IsReducedChain}}
 use Rattle.cl_runs.specs.RunChains.{run_moments}
-use Rattle.cl_runs.proofs.MomentFacts.{reads_below, reads_rise}
-use Rattle.cl_runs.proofs.Agreement.{reads_kept, writes_kept, read_returns, write_returns}
+use Rattle.cl_model.specs.{declared.group.Group.Group, Groups.group_at}
+use Rattle.cl_runs.proofs.{MomentFacts.{reads_below, reads_rise}, Agreement.{reads_kept, writes_kept, read_returns, write_returns}}
 
 -- moments that go on from others: they have all of the old ones, reads below the end and writes at or before it are
 -- old ones, old reads lie below the end, and reads rise with the job number

@@ -1,16 +1,8 @@
 -- What holds of complete chains over moments in order, for the moments of runs and for ideal moments.
 use Rattle.std.proofs.Common.{ℕ, ◌<◌, ◌≤◌, List, [], ◌∷◌, length, arith}
-use Rattle.cl_model.specs.declared.group.Group.{Group}
-use Rattle.cl_model.specs.declared.group.Step.{Step}
-use Rattle.cl_model.specs.Groups.{groups, group_at}
-use Rattle.cl_runs.specs.TaskTiming.{System, IsSound}
-use Rattle.cl_runs.specs.Run.{Run}
-use Rattle.cl_runs.specs.Legal.{IsLegal}
-use Rattle.cl_runs.specs.Chains.{JobChain, IsEarliestReader, IsLatestWriter, IsForwardChain, IsAgeChain, IsReducedChain}
-use Rattle.cl_runs.specs.MomentOrder.{AreGroupsOf}
-use Rattle.cl_runs.specs.RunChains.{run_moments, ideal_moments}
-use Rattle.cl_runs.proofs.ChainsOrdered.{forward_ordered, age_ordered, reduced_ordered}
-use Rattle.cl_runs.proofs.OrderedMoments.{reader_rises, writer_rises, run_in_order, run_has_read, ideal_in_order, ideal_has_read}
+use Rattle.cl_model.specs.{declared.group.{Group.Group, Step.Step}, Groups.{groups, group_at}}
+use Rattle.cl_runs.specs.{TaskTiming.{System, IsSound}, Run.Run, Legal.IsLegal, Chains.{JobChain, IsEarliestReader, IsLatestWriter, IsForwardChain, IsAgeChain, IsReducedChain}, MomentOrder.AreGroupsOf, RunChains.{run_moments, ideal_moments}}
+use Rattle.cl_runs.proofs.{ChainsOrdered.{forward_ordered, age_ordered, reduced_ordered}, OrderedMoments.{reader_rises, writer_rises, run_in_order, run_has_read, ideal_in_order, ideal_has_read}}
 
 module _ (system : System) (sound : IsSound system) (run : Run) (legal : IsLegal system run) where
   module _ (steps : List Step) where

@@ -1,10 +1,8 @@
 -- Over moments in order a complete chain ends after it begins.
 use Rattle.std.proofs.Common.{◌≡◌, ℕ, zero, suc, ◌+◌, ◌-◌, ◌<◌, ◌≤◌, List, length, subst, arith}
 use Rattle.std.specs.Prelude.{slice_index}
-use Rattle.cl_model.specs.declared.group.Group.{Group}
-use Rattle.cl_model.specs.Groups.{group_at}
-use Rattle.cl_runs.specs.Chains.{Moments, JobChain, first_group, last_group, first_job, last_job, IsForwardChain, AreBackwardLinks, IsAgeChain, IsReducedChain}
-use Rattle.cl_runs.specs.MomentOrder.{AreInOrder, HaveReadBeforeWriting}
+use Rattle.cl_model.specs.{declared.group.Group.Group, Groups.group_at}
+use Rattle.cl_runs.specs.{Chains.{Moments, JobChain, first_group, last_group, first_job, last_job, IsForwardChain, AreBackwardLinks, IsAgeChain, IsReducedChain}, MomentOrder.{AreInOrder, HaveReadBeforeWriting}}
 
 module _ (moments : Moments) (groups : List Group) (order : AreInOrder moments groups) (read_first : HaveReadBeforeWriting moments groups) where
   -- what a job writes comes after each read at or before that of the job

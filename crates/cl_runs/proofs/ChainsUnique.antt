@@ -2,10 +2,8 @@
 use Rattle.std.proofs.Common.{◌≡◌, ℕ, zero, suc, ◌+◌, ◌-◌, ◌<◌, List, length, sym, ap, ◌∙◌, subst, arith}
 use Rattle.std.specs.Prelude.{slice_index}
 use Rattle.std.proofs.lemmas.List.{ext_get_or}
-use Rattle.cl_model.specs.declared.group.Group.{Group}
-use Rattle.cl_model.specs.Groups.{group_at}
-use Rattle.cl_runs.specs.Chains.{Moments, IsEarliestReader, IsLatestWriter, JobChain, first_group, last_group, first_job, last_job, IsForwardChain, AreBackwardLinks, IsAgeChain, IsReducedChain}
-use Rattle.cl_runs.specs.MomentOrder.{AreUnique}
+use Rattle.cl_model.specs.{declared.group.Group.Group, Groups.group_at}
+use Rattle.cl_runs.specs.{Chains.{Moments, IsEarliestReader, IsLatestWriter, JobChain, first_group, last_group, first_job, last_job, IsForwardChain, AreBackwardLinks, IsAgeChain, IsReducedChain}, MomentOrder.AreUnique}
 
 pub chain_same : (one other : JobChain) → one.from ≡ other.from → one.to ≡ other.to → one.jobs ≡ other.jobs → one ≡ other
 chain_same one other from to jobs = λ i. record { from = from i; to = to i; jobs = jobs i }

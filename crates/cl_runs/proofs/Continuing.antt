@@ -1,13 +1,7 @@
 -- A legal run that goes on from a legal run of a sound system has its moments and chains.
 use Rattle.std.proofs.Common.{ℕ, ◌≤◌}
-use Rattle.cl_runs.specs.TaskTiming.{System, IsSound}
-use Rattle.cl_runs.specs.Run.{Run}
-use Rattle.cl_runs.specs.Legal.{IsLegal}
-use Rattle.cl_runs.specs.GoesOn.{GoesOn}
-use Rattle.cl_runs.specs.Continuation.{IsContinuation, HasContinuation}
-use Rattle.cl_runs.proofs.Extension.{extension}
-use Rattle.cl_runs.proofs.Agreement.{starts_kept, finishes_kept, reads_kept, writes_kept, start_returns, finish_returns, read_returns, write_returns}
-use Rattle.cl_runs.proofs.ChainsKept.{run_forward_kept, run_age_kept, run_reduced_kept}
+use Rattle.cl_runs.specs.{TaskTiming.{System, IsSound}, Run.Run, Legal.IsLegal, GoesOn.GoesOn, Continuation.{IsContinuation, HasContinuation}}
+use Rattle.cl_runs.proofs.{Extension.extension, Agreement.{starts_kept, finishes_kept, reads_kept, writes_kept, start_returns, finish_returns, read_returns, write_returns}, ChainsKept.{run_forward_kept, run_age_kept, run_reduced_kept}}
 
 module _ (system : System) (sound : IsSound system) (shorter : Run) (legal : IsLegal system shorter) where
   pub continuation : (longer : Run) → IsLegal system longer → GoesOn shorter longer → IsContinuation system shorter longer

@@ -6,12 +6,7 @@ use Rattle.std.proofs.lemmas.Bool.{leb-true, leb-false, lt-leb, cond-false}
 use Rattle.std.proofs.lemmas.List.Elements.{All-nil, All-cons, All-head, All-tail}
 use Rattle.std.proofs.lemmas.List.Sums.{sum_by-cons}
 use Rattle.cl_model.specs.declared.stimulus.StimulusKind.{StimulusKind}
-use Rattle.cl_runs.specs.Pattern.{IsPattern, first_greatest, greatest_gap}
-use Rattle.cl_runs.specs.TaskTiming.{TimeRange, Timing, IsSoundTask}
-use Rattle.cl_runs.specs.declared.job.Job.{Job}
-use Rattle.cl_runs.specs.Arrivals.{IsArrival, AreArrivalsFrom}
-use Rattle.cl_runs.specs.Table.{job_at, LiesIn, HasTimes, AreLawfulJobs}
-use Rattle.cl_runs.specs.Legal.{released}
+use Rattle.cl_runs.specs.{Pattern.{IsPattern, first_greatest, greatest_gap}, TaskTiming.{TimeRange, Timing, IsSoundTask}, declared.job.Job.Job, Arrivals.{IsArrival, AreArrivalsFrom}, Table.{job_at, LiesIn, HasTimes, AreLawfulJobs}, Legal.released}
 use Rattle.cl_runs.proofs.PatternFacts.{first_ordered, gap_positive, gaps_ordered}
 
 -- a job that arrives at n, is released at once and takes its least times

@@ -1,10 +1,7 @@
 -- Arrivals without a choice: where the least gap of a job is the greatest, each job has a position of its own.
 use Rattle.std.proofs.Common.{◌≡◌, ℕ, zero, suc, ◌+◌, ◌<◌, ◌≤◌, List, [], ◌∷◌, length, ap, subst, arith}
 use Rattle.cl_model.specs.declared.stimulus.StimulusKind.{StimulusKind}
-use Rattle.cl_runs.specs.declared.job.Job.{Job}
-use Rattle.cl_runs.specs.Pattern.{least_gap, greatest_gap}
-use Rattle.cl_runs.specs.Arrivals.{IsArrival, AreArrivalsFrom}
-use Rattle.cl_runs.specs.Table.{job_at}
+use Rattle.cl_runs.specs.{declared.job.Job.Job, Pattern.{least_gap, greatest_gap}, Arrivals.{IsArrival, AreArrivalsFrom}, Table.job_at}
 
 module _ (pattern : StimulusKind) (ticks : ℕ) where
   -- the same jobs, with the interval of the next arrival written in another way

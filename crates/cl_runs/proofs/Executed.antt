@@ -6,8 +6,7 @@ use Rattle.std.proofs.lemmas.Bool.{cases_lt, cases_eq, ne_eqb}
 use Rattle.std.proofs.lemmas.List.{take_all}
 use Rattle.std.proofs.lemmas.List.Folds.{sum_by-replicate}
 use Rattle.std.proofs.lemmas.List.Sums.{count_by_more_yes, count_by_more_no, sum_by-append}
-use Rattle.cl_runs.specs.TaskTiming.{System, timing_at}
-use Rattle.cl_runs.specs.Run.{Run, core_entries, entry_at, is_task, executed}
+use Rattle.cl_runs.specs.{TaskTiming.{System, timing_at}, Run.{Run, core_entries, entry_at, is_task, executed}}
 use Rattle.cl_runs.proofs.Climbing.{Climbs}
 
 -- an entry is task i, or it isn't

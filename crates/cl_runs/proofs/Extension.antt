@@ -3,15 +3,8 @@ use Rattle.std.proofs.Common.{◌≡◌, ℕ, zero, suc, ◌+◌, ◌-◌, ◌<�
 use Rattle.std.proofs.lemmas.Bool.{cases_lt}
 use Rattle.std.proofs.lemmas.List.{take-take, take_all, length-replicate, get_or-replicate, get_or_past}
 use Rattle.std.proofs.lemmas.List.Elements.{All-nil}
-use Rattle.cl_runs.specs.TaskTiming.{System, timing_at, IsSound}
-use Rattle.cl_runs.specs.declared.job.Job.{Job}
-use Rattle.cl_runs.specs.Table.{job_at, table_jobs, HasTimes, AreLawfulJobs, IsLawful}
-use Rattle.cl_runs.specs.Run.{Run, jobs_of, core_entries, empty_run}
-use Rattle.cl_runs.specs.Legal.{IsLegal}
-use Rattle.cl_runs.specs.GoesOn.{GoesOn}
-use Rattle.cl_runs.proofs.Work.{job_along, first_length}
-use Rattle.cl_runs.proofs.Filling.{legal_from}
-use Rattle.cl_runs.proofs.NextRun.{next_run, next_legal, next_end, next_goes_on}
+use Rattle.cl_runs.specs.{TaskTiming.{System, timing_at, IsSound}, declared.job.Job.Job, Table.{job_at, table_jobs, HasTimes, AreLawfulJobs, IsLawful}, Run.{Run, jobs_of, core_entries, empty_run}, Legal.IsLegal, GoesOn.GoesOn}
+use Rattle.cl_runs.proofs.{Work.{job_along, first_length}, Filling.legal_from, NextRun.{next_run, next_legal, next_end, next_goes_on}}
 
 module _ (system : System) where
   no_jobs : (i : ℕ) → i < length system.tasks → table_jobs (empty_run system).table i ≡ []

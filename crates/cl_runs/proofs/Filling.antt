@@ -2,15 +2,8 @@
 use Rattle.std.proofs.Common.{◌≡◌, ℕ, zero, suc, ◌<◌, ◌≤◌, inl, inr, Option, None, List, [], ◌∷◌, ◌++◌, replicate, length, get_or, take, refl, sym, ap, ◌∙◌, subst, arith}
 use Rattle.std.proofs.lemmas.Bool.{cases_lt}
 use Rattle.std.proofs.lemmas.List.{length_push, get_or_push, get_or_append_left, take-append-le, length-replicate, get_or-replicate}
-use Rattle.cl_runs.specs.TaskTiming.{System, timing_at, IsSound}
-use Rattle.cl_runs.specs.declared.job.JobTable.{JobTable}
-use Rattle.cl_runs.specs.Table.{table_jobs, IsLawful}
-use Rattle.cl_runs.specs.Run.{Run, core_entries, entry_at, executed}
-use Rattle.cl_runs.specs.Legal.{released, IsScheduled, IsLegal}
-use Rattle.cl_runs.proofs.Executed.{executed_same}
-use Rattle.cl_runs.proofs.HeldTasks.{held_moved}
-use Rattle.cl_runs.proofs.Scheduling.{AreAlike, scheduled_alike, scheduled_some, scheduled_entry}
-use Rattle.cl_runs.proofs.NextTable.{listed, length-listed, get_or-listed, get_or-listed_past, lawful_times}
+use Rattle.cl_runs.specs.{TaskTiming.{System, timing_at, IsSound}, declared.job.JobTable.JobTable, Table.{table_jobs, IsLawful}, Run.{Run, core_entries, entry_at, executed}, Legal.{released, IsScheduled, IsLegal}}
+use Rattle.cl_runs.proofs.{Executed.executed_same, HeldTasks.held_moved, Scheduling.{AreAlike, scheduled_alike, scheduled_some, scheduled_entry}, NextTable.{listed, length-listed, get_or-listed, get_or-listed_past, lawful_times}}
 
 -- each core has an entry for each of the first t ticks, the one that is scheduled
 pub record IsFilled (system : System) (run : Run) (t : ℕ) : Type 0 where

@@ -2,9 +2,7 @@
 use Rattle.std.proofs.Common.{◌≡◌, ℕ, zero, suc, ◌<◌, ◌≤◌, true, List, [], ◌∷◌, length, arith, nat_lt}
 use Rattle.std.specs.Prelude.{◌==◌}
 use Rattle.std.proofs.lemmas.Bool.{and_parts, ltb-true, cond_both}
-use Rattle.cl_model.specs.declared.group.Group.{Group}
-use Rattle.cl_model.specs.declared.group.Step.{Step}
-use Rattle.cl_model.specs.Groups.{is_inner, group_of_step, groups_from, groups, group_at}
+use Rattle.cl_model.specs.{declared.group.{Group.Group, Step.Step}, Groups.{is_inner, group_of_step, groups_from, groups, group_at}}
 
 abbrev AllForward : List Group → Type 0
 AllForward gs = (i : ℕ) → i < length gs → (group_at gs i).first ≤ (group_at gs i).last

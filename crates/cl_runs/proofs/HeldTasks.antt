@@ -1,14 +1,8 @@
 -- Held tasks: whether one is held can be decided, and a held task has more work released than executed.
 use Rattle.std.proofs.Common.{◌≡◌, ℕ, suc, ◌<◌, ◌≤◌, ◌⊎◌, ◌↔◌, inl, inr, Bool, true, false, List, length, take, refl, sym, ap, subst, arith}
 use Rattle.std.proofs.lemmas.Bool.{cases_lt, cases_eq}
-use Rattle.cl_runs.specs.TaskTiming.{Timing, range_at}
-use Rattle.cl_runs.specs.declared.job.Job.{Job}
-use Rattle.cl_runs.specs.Table.{job_at}
-use Rattle.cl_runs.specs.Work.{work_before, work_through}
-use Rattle.cl_runs.specs.Held.{IsHeld}
-use Rattle.cl_runs.specs.Legal.{released}
-use Rattle.cl_runs.proofs.FirstBelow.{IsFirst, both_or_not, first_or_none}
-use Rattle.cl_runs.proofs.Work.{total_time, work_rises, places_rise, through_place, work_along, through_along, before_further, first_length, through_job, before_job, released_first, released_before}
+use Rattle.cl_runs.specs.{TaskTiming.{Timing, range_at}, declared.job.Job.Job, Table.job_at, Work.{work_before, work_through}, Held.IsHeld, Legal.released}
+use Rattle.cl_runs.proofs.{FirstBelow.{IsFirst, both_or_not, first_or_none}, Work.{total_time, work_rises, places_rise, through_place, work_along, through_along, before_further, first_length, through_job, before_job, released_first, released_before}}
 
 -- ---- it can be decided
 

@@ -2,17 +2,8 @@
 -- and what starts is the highest pending task.
 use Rattle.std.proofs.Common.{◌≡◌, ℕ, zero, suc, ◌+◌, ◌-◌, ◌<◌, ◌≤◌, true, inl, inr, Option, Some, None, length, refl, sym, ap, ◌∙◌, arith}
 use Rattle.std.specs.Prelude.{slice_index}
-use Rattle.cl_runs.specs.TaskTiming.{System, timing_at, range_at, IsSound}
-use Rattle.cl_runs.specs.Table.{job_at}
-use Rattle.cl_runs.specs.Work.{work_before}
-use Rattle.cl_runs.specs.Run.{Run, jobs_of, core_entries, entry_at, executed}
-use Rattle.cl_runs.specs.Held.{IsHeldIn}
-use Rattle.cl_runs.specs.Legal.{IsNoneHeld, IsHighestPending, IsScheduled, IsLegal}
-use Rattle.cl_runs.specs.Moments.{IsHeldAt, Executes, Starts, Finishes}
-use Rattle.cl_runs.proofs.Climbing.{climb_lt, climb_slow}
-use Rattle.cl_runs.proofs.Executed.{cases_entry, executed_zero, executed_climbs, executed_more, executed_stays}
-use Rattle.cl_runs.proofs.HeldTasks.{held_moved, not_held_between}
-use Rattle.cl_runs.proofs.LegalFacts.{place_of_task, core_ticks, job_places, time_positive, running_scheduled}
+use Rattle.cl_runs.specs.{TaskTiming.{System, timing_at, range_at, IsSound}, Table.job_at, Work.work_before, Run.{Run, jobs_of, core_entries, entry_at, executed}, Held.IsHeldIn, Legal.{IsNoneHeld, IsHighestPending, IsScheduled, IsLegal}, Moments.{IsHeldAt, Executes, Starts, Finishes}}
+use Rattle.cl_runs.proofs.{Climbing.{climb_lt, climb_slow}, Executed.{cases_entry, executed_zero, executed_climbs, executed_more, executed_stays}, HeldTasks.{held_moved, not_held_between}, LegalFacts.{place_of_task, core_ticks, job_places, time_positive, running_scheduled}}
 
 module _ (system : System) (sound : IsSound system) (run : Run) (legal : IsLegal system run) where
   -- a task that doesn't run in a tick was held before it, if it is held after it

@@ -2,18 +2,8 @@
 use Rattle.std.proofs.Common.{◌≡◌, ℕ, zero, suc, ◌+◌, ◌<◌, ◌≤◌, ◌⊎◌, inl, inr, List, length, take, arith}
 use Rattle.std.specs.Prelude.{sum, sum_by}
 use Rattle.std.proofs.lemmas.Bool.{cases_lt}
-use Rattle.cl_runs.specs.TaskTiming.{System, IsSound}
-use Rattle.cl_runs.specs.declared.job.Job.{Job}
-use Rattle.cl_runs.specs.Table.{job_at}
-use Rattle.cl_runs.specs.Run.{Run, jobs_of, executed}
-use Rattle.cl_runs.specs.Legal.{released, IsLegal}
-use Rattle.cl_runs.specs.Work.{work_before, work_through}
-use Rattle.cl_runs.specs.Moments.{Starts, Finishes}
-use Rattle.cl_runs.proofs.Climbing.{climb_slow}
-use Rattle.cl_runs.proofs.Executed.{executed_zero, executed_climbs, executed_grew, executed_past}
-use Rattle.cl_runs.proofs.LegalFacts.{core_ticks, running_pending, executed_released, time_positive}
-use Rattle.cl_runs.proofs.RunArrivals.{releases_in_order}
-use Rattle.cl_runs.proofs.StartsFinishes.{start_grows, finish_earliest}
+use Rattle.cl_runs.specs.{TaskTiming.{System, IsSound}, declared.job.Job.Job, Table.job_at, Run.{Run, jobs_of, executed}, Legal.{released, IsLegal}, Work.{work_before, work_through}, Moments.{Starts, Finishes}}
+use Rattle.cl_runs.proofs.{Climbing.climb_slow, Executed.{executed_zero, executed_climbs, executed_grew, executed_past}, LegalFacts.{core_ticks, running_pending, executed_released, time_positive}, RunArrivals.releases_in_order, StartsFinishes.{start_grows, finish_earliest}}
 use Rattle.cl_runs.proofs.Work.{places_rise, released_before}
 
 earlier_work : (jobs : List Job) (k : ℕ) → sum_by (λ (job : Job). sum job.times) (take k jobs) ≡ work_before jobs k 0

@@ -2,9 +2,7 @@
 use Rattle.std.proofs.Common.{◌≡◌, ℕ, ◌<◌, ◌≤◌, false, length, arith}
 use Rattle.std.specs.Prelude.{slice_index}
 use Rattle.std.proofs.lemmas.Slice.Zip.{AllZip-long}
-use Rattle.cl_runs.specs.TaskTiming.{TimeRange, Timing, IsSoundTask}
-use Rattle.cl_runs.specs.declared.job.Job.{Job}
-use Rattle.cl_runs.specs.Table.{LiesIn, HasTimes}
+use Rattle.cl_runs.specs.{TaskTiming.{TimeRange, Timing, IsSoundTask}, declared.job.Job.Job, Table.{LiesIn, HasTimes}}
 use Rattle.cl_runs.proofs.ZippedLists.{zip_at}
 
 -- a lawful job has one time per runnable

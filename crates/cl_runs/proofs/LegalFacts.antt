@@ -3,15 +3,8 @@ use Rattle.std.proofs.Common.{◌≡◌, ℕ, zero, suc, ◌<◌, ◌≤◌, ◌
 use Rattle.std.specs.Prelude.{slice_index}
 use Rattle.std.proofs.lemmas.Bool.{cases_lt}
 use Rattle.std.proofs.lemmas.List.{get_or_past}
-use Rattle.cl_runs.specs.TaskTiming.{Timing, System, timing_at, no_timing, IsSound}
-use Rattle.cl_runs.specs.Table.{no_job, job_at, HasTimes}
-use Rattle.cl_runs.specs.Run.{Run, jobs_of, core_entries, entry_at, executed}
-use Rattle.cl_runs.specs.Legal.{released, IsTaskHeld, IsScheduled, IsLegal}
-use Rattle.cl_runs.proofs.Executed.{executed_zero, executed_climbs, executed_grew, executed_past}
-use Rattle.cl_runs.proofs.Work.{total_time, released_mono, released_total}
-use Rattle.cl_runs.proofs.LawfulJobs.{times_length, times_positive}
-use Rattle.cl_runs.proofs.HeldTasks.{held_released}
-use Rattle.cl_runs.proofs.RunArrivals.{releases_in_order}
+use Rattle.cl_runs.specs.{TaskTiming.{Timing, System, timing_at, no_timing, IsSound}, Table.{no_job, job_at, HasTimes}, Run.{Run, jobs_of, core_entries, entry_at, executed}, Legal.{released, IsTaskHeld, IsScheduled, IsLegal}}
+use Rattle.cl_runs.proofs.{Executed.{executed_zero, executed_climbs, executed_grew, executed_past}, Work.{total_time, released_mono, released_total}, LawfulJobs.{times_length, times_positive}, HeldTasks.held_released, RunArrivals.releases_in_order}
 
 -- a place that is one of a task's runnables is one of a task of the system
 pub place_of_task : (system : System) (i p : ℕ) → p < length (timing_at system i).ranges → i < length system.tasks

@@ -2,9 +2,7 @@
 use Rattle.std.proofs.Common.{◌≡◌, ◌≢◌, ℕ, zero, suc, ◌<◌, ◌≤◌, ◌⊎◌, inl, inr, Option, Some, None, List, [], ◌∷◌, length, get_or, remove, refl, sym, ap, arith, Contains, IsPermutation}
 use Rattle.std.proofs.lemmas.List.Sorted.{IsPermutation-remove, Contains-permutation, length_permutation}
 use Rattle.cl_model.specs.declared.group.Group.{Group}
-use Rattle.cl_runs.specs.Chains.{Moments, JobChain, chain_length, first_job, last_job, IsForwardChain, IsAgeChain, IsReducedChain}
-use Rattle.cl_runs.specs.MomentOrder.{AreUnique}
-use Rattle.cl_runs.specs.Measured.{IsMeasuredBy, IsCountOf, Measured, IsMeasured}
+use Rattle.cl_runs.specs.{Chains.{Moments, JobChain, chain_length, first_job, last_job, IsForwardChain, IsAgeChain, IsReducedChain}, MomentOrder.AreUnique, Measured.{IsMeasuredBy, IsCountOf, Measured, IsMeasured}}
 use Rattle.cl_runs.proofs.ChainsUnique.{forward_once, age_once, reduced_once}
 
 -- ---- the longest

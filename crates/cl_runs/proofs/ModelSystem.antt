@@ -3,19 +3,9 @@ use Rattle.std.proofs.Common.{◌≡◌, ℕ, ◌<◌, ◌≤◌, length, map, r
 use Rattle.std.specs.Prelude.{All}
 use Rattle.std.proofs.lemmas.List.{get_or-map, length-map}
 use Rattle.std.proofs.lemmas.List.Elements.{All-map}
-use Rattle.cl_model.specs.declared.model.SystemModel.{SystemModel}
-use Rattle.cl_model.specs.declared.stimulus.StimulusKind.{StimulusKind}
-use Rattle.cl_model.specs.declared.stimulus.StimulusKind.TheVariants.{Periodic, Sporadic, Burst}
-use Rattle.cl_model.specs.ByNumber.{no_task, task_at, stimulus_of}
-use Rattle.cl_model.specs.Ranges.{IsKindInRange}
-use Rattle.cl_model.specs.Timing.{IsKindOrdered}
-use Rattle.cl_model.specs.Validity.{IsValid}
-use Rattle.cl_runs.specs.Pattern.{IsPattern}
-use Rattle.cl_runs.specs.TaskTiming.{TimeRange, Timing, timing_at, no_timing, IsSoundTask, IsSound}
-use Rattle.cl_runs.specs.SystemOf.{range_of, timing_of, system_of}
-use Rattle.cl_model.proofs.CoreTasks.{priorities_differ}
-use Rattle.cl_model.proofs.NamesKnown.{core_within}
-use Rattle.cl_model.proofs.ValidTasks.{kind_in_range, kind_ordered, early_enough, released_before, has_runnable, runnables_in_range, times_ordered}
+use Rattle.cl_model.specs.{declared.{model.SystemModel.SystemModel, stimulus.StimulusKind.{StimulusKind, TheVariants.{Periodic, Sporadic, Burst}}}, ByNumber.{no_task, task_at, stimulus_of}, Ranges.IsKindInRange, Timing.IsKindOrdered, Validity.IsValid}
+use Rattle.cl_runs.specs.{Pattern.IsPattern, TaskTiming.{TimeRange, Timing, timing_at, no_timing, IsSoundTask, IsSound}, SystemOf.{range_of, timing_of, system_of}}
+use Rattle.cl_model.proofs.{CoreTasks.priorities_differ, NamesKnown.core_within, ValidTasks.{kind_in_range, kind_ordered, early_enough, released_before, has_runnable, runnables_in_range, times_ordered}}
 
 -- a kind of stimulus whose numbers are in range and in order is a well-formed pattern
 pub well_formed : (kind : StimulusKind) → IsKindInRange kind → IsKindOrdered kind → IsPattern kind

@@ -1,19 +1,8 @@
 -- Read and write moments: each is unique, they rise with the job number, and a job that has written has read.
 use Rattle.std.proofs.Common.{◌≡◌, ℕ, ◌+◌, ◌<◌, ◌≤◌, length, refl, sym, subst, ◌∙◌, arith}
-use Rattle.cl_model.specs.declared.task.AccessKind.{AccessKind}
-use Rattle.cl_model.specs.declared.task.AccessKind.TheVariants.{Explicit, Implicit, Timed}
-use Rattle.cl_runs.specs.TaskTiming.{System, timing_at, IsSound}
-use Rattle.cl_runs.specs.Table.{job_at}
-use Rattle.cl_runs.specs.Run.{Run, jobs_of, executed}
-use Rattle.cl_runs.specs.Legal.{IsLegal}
-use Rattle.cl_runs.specs.Work.{work_before, work_through}
-use Rattle.cl_runs.specs.Moments.{Starts, Finishes, HasStartedBefore, JobFinishes, WritesAtDeadline, ReadsBy, WritesBy, Reads, HasReadBefore, Writes}
-use Rattle.cl_runs.proofs.Climbing.{climb_lt}
-use Rattle.cl_runs.proofs.Executed.{executed_climbs}
-use Rattle.cl_runs.proofs.Work.{work_rises, places_rise}
-use Rattle.cl_runs.proofs.LegalFacts.{place_of_task, core_ticks, job_places, time_positive}
-use Rattle.cl_runs.proofs.RunArrivals.{arrives_below, arrivals_rise}
-use Rattle.cl_runs.proofs.StartsFinishes.{starts_once, finishes_once, starts_before}
+use Rattle.cl_model.specs.declared.task.AccessKind.{AccessKind, TheVariants.{Explicit, Implicit, Timed}}
+use Rattle.cl_runs.specs.{TaskTiming.{System, timing_at, IsSound}, Table.job_at, Run.{Run, jobs_of, executed}, Legal.IsLegal, Work.{work_before, work_through}, Moments.{Starts, Finishes, HasStartedBefore, JobFinishes, WritesAtDeadline, ReadsBy, WritesBy, Reads, HasReadBefore, Writes}}
+use Rattle.cl_runs.proofs.{Climbing.climb_lt, Executed.executed_climbs, Work.{work_rises, places_rise}, LegalFacts.{place_of_task, core_ticks, job_places, time_positive}, RunArrivals.{arrives_below, arrivals_rise}, StartsFinishes.{starts_once, finishes_once, starts_before}}
 
 module _ (system : System) (run : Run) (i : ℕ) where
   read_once : (a : AccessKind) (k p s t : ℕ) → ReadsBy a system run i k p s → ReadsBy a system run i k p t → s ≡ t

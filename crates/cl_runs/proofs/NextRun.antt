@@ -2,18 +2,9 @@
 use Rattle.std.proofs.Common.{◌≡◌, ℕ, suc, ◌<◌, ◌≤◌, inl, inr, [], length, take, refl, sym, ap, ◌∙◌, subst, arith}
 use Rattle.std.proofs.lemmas.Bool.{cases_lt}
 use Rattle.std.proofs.lemmas.List.{take_all, get_or_past}
-use Rattle.cl_runs.specs.TaskTiming.{System, timing_at, IsSound}
-use Rattle.cl_runs.specs.declared.job.JobTable.{JobTable}
-use Rattle.cl_runs.specs.Table.{job_at, table_jobs, IsLawful}
-use Rattle.cl_runs.specs.Run.{Run, jobs_of, core_entries, executed}
-use Rattle.cl_runs.specs.Legal.{IsLegal}
-use Rattle.cl_runs.specs.GoesOn.{GoesOn}
-use Rattle.cl_runs.proofs.Executed.{executed_same}
-use Rattle.cl_runs.proofs.HeldTasks.{held_longer, held_shorter, held_moved}
-use Rattle.cl_runs.proofs.LegalFacts.{executed_total}
-use Rattle.cl_runs.proofs.Scheduling.{AreAlike, scheduled_alike}
-use Rattle.cl_runs.proofs.Filling.{IsFilled, legal_from, more_entries, more_table, no_more_core, more_take, more_filled}
-use Rattle.cl_runs.proofs.NextTable.{next_table, next_ticks, no_next_jobs, next_lawful, next_released, next_first, next_later}
+use Rattle.cl_runs.specs.{TaskTiming.{System, timing_at, IsSound}, declared.job.JobTable.JobTable, Table.{job_at, table_jobs, IsLawful}, Run.{Run, jobs_of, core_entries, executed}, Legal.IsLegal, GoesOn.GoesOn}
+use Rattle.cl_runs.proofs.{Executed.executed_same, HeldTasks.{held_longer, held_shorter, held_moved}, LegalFacts.executed_total, Scheduling.{AreAlike, scheduled_alike}, Filling.{IsFilled, legal_from, more_entries, more_table, no_more_core, more_take, more_filled}, NextTable.next_table}
+use Rattle.cl_runs.proofs.NextTable.{next_ticks, no_next_jobs, next_lawful, next_released, next_first, next_later}
 
 -- the same entries with the table for one more tick
 retabled : System → Run → Run

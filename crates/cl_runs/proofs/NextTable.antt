@@ -3,14 +3,8 @@ use Rattle.std.proofs.Common.{◌≡◌, ℕ, suc, ◌<◌, ◌≤◌, List, [],
 use Rattle.std.specs.List.{range_with_len}
 use Rattle.std.proofs.lemmas.List.{get_or_past}
 use Rattle.std.proofs.lemmas.List.FromFn.{length-map-range_with_len, get_or-map-range_with_len}
-use Rattle.cl_runs.specs.Pattern.{first_greatest}
-use Rattle.cl_runs.specs.TaskTiming.{System, timing_at, IsSound}
-use Rattle.cl_runs.specs.declared.job.Job.{Job}
-use Rattle.cl_runs.specs.declared.job.JobTable.{JobTable}
-use Rattle.cl_runs.specs.Table.{no_job, job_at, table_jobs, AreLawfulJobs, IsLawful}
-use Rattle.cl_runs.specs.Legal.{released}
-use Rattle.cl_runs.proofs.LawfulJobs.{times_length}
-use Rattle.cl_runs.proofs.DueJobs.{with_due, with_due_lawful, with_due_first, with_due_later, with_due_released}
+use Rattle.cl_runs.specs.{Pattern.first_greatest, TaskTiming.{System, timing_at, IsSound}, declared.job.{Job.Job, JobTable.JobTable}, Table.{no_job, job_at, table_jobs, AreLawfulJobs, IsLawful}, Legal.released}
+use Rattle.cl_runs.proofs.{LawfulJobs.times_length, DueJobs.{with_due, with_due_lawful, with_due_first, with_due_later, with_due_released}}
 
 -- a list made from a function of the number
 pub listed : {A : Type 0} → (ℕ → A) → ℕ → List A

@@ -2,14 +2,8 @@
 use Rattle.std.proofs.Common.{◌≡◌, ℕ, zero, suc, ◌<◌, ◌≤◌, None, [], length, take, refl, sym, ap, ◌∙◌, arith}
 use Rattle.std.proofs.Math.Numerals.{add-one}
 use Rattle.std.proofs.lemmas.List.{take_more_same, take_all, ext_get_or}
-use Rattle.cl_runs.specs.TaskTiming.{System, timing_at, IsSound}
-use Rattle.cl_runs.specs.declared.job.JobTable.{JobTable}
-use Rattle.cl_runs.specs.Table.{table_jobs}
-use Rattle.cl_runs.specs.Run.{Run, core_entries, entry_at, executed}
-use Rattle.cl_runs.specs.Legal.{released, IsLegal}
-use Rattle.cl_runs.proofs.Executed.{executed_same}
-use Rattle.cl_runs.proofs.HeldTasks.{held_moved}
-use Rattle.cl_runs.proofs.Scheduling.{AreAlike, scheduled_alike, scheduled_once}
+use Rattle.cl_runs.specs.{TaskTiming.{System, timing_at, IsSound}, declared.job.JobTable.JobTable, Table.table_jobs, Run.{Run, core_entries, entry_at, executed}, Legal.{released, IsLegal}}
+use Rattle.cl_runs.proofs.{Executed.executed_same, HeldTasks.held_moved, Scheduling.{AreAlike, scheduled_alike, scheduled_once}}
 
 pub run_same : (one other : Run) → one.table ≡ other.table → one.entries ≡ other.entries → one ≡ other
 run_same one other table entries = λ i. record { table = table i; entries = entries i }

@@ -3,20 +3,9 @@
 use Rattle.std.proofs.Common.{◌≡◌, ℕ, suc, ◌*◌, ◌<◌, ◌≤◌, inl, inr, List, length, sym, ◌∙◌, subst, arith}
 use Rattle.std.proofs.lemmas.Bool.{cases_lt}
 use Rattle.std.proofs.Math.Nat.{mul-le-mul_right}
-use Rattle.cl_model.specs.declared.group.Group.{Group}
-use Rattle.cl_model.specs.declared.group.Step.{Step}
-use Rattle.cl_model.specs.declared.stimulus.StimulusKind.{StimulusKind}
-use Rattle.cl_model.specs.declared.stimulus.StimulusKind.TheVariants.{Periodic, Sporadic, Burst}
-use Rattle.cl_model.specs.Groups.{no_group, groups, group_at}
-use Rattle.cl_runs.specs.Pattern.{IsPattern}
-use Rattle.cl_runs.specs.TaskTiming.{System, timing_at, IsSound}
-use Rattle.cl_runs.specs.Run.{Run}
-use Rattle.cl_runs.specs.Legal.{IsLegal}
-use Rattle.cl_runs.specs.Chains.{Moments, IsEarliestReader, IsLatestWriter}
-use Rattle.cl_runs.specs.MomentOrder.{AreUnique, AreInOrder, HaveReadBeforeWriting, AreGroupsOf}
-use Rattle.cl_runs.specs.RunChains.{ArrivesAt, run_moments, ideal_moments}
-use Rattle.cl_runs.proofs.GroupPlaces.{groups_forward}
-use Rattle.cl_runs.proofs.MomentFacts.{reads_once, writes_once, has_read, reads_rise, writes_rise}
+use Rattle.cl_model.specs.{declared.{group.{Group.Group, Step.Step}, stimulus.StimulusKind.{StimulusKind, TheVariants.{Periodic, Sporadic, Burst}}}, Groups.{no_group, groups, group_at}}
+use Rattle.cl_runs.specs.{Pattern.IsPattern, TaskTiming.{System, timing_at, IsSound}, Run.Run, Legal.IsLegal, Chains.{Moments, IsEarliestReader, IsLatestWriter}, MomentOrder.{AreUnique, AreInOrder, HaveReadBeforeWriting, AreGroupsOf}, RunChains.{ArrivesAt, run_moments, ideal_moments}}
+use Rattle.cl_runs.proofs.{GroupPlaces.groups_forward, MomentFacts.{reads_once, writes_once, has_read, reads_rise, writes_rise}}
 
 -- ---- readers and writers
 

@@ -2,9 +2,7 @@
 -- distance.
 use Rattle.std.proofs.Common.{◌≡◌, ℕ, suc, ◌+◌, ◌-◌, ◌*◌, ◌%◌, ◌≤◌, nat_lt, ap, arith}
 use Rattle.std.proofs.lemmas.Bool.{cond_both}
-use Rattle.cl_model.specs.declared.stimulus.StimulusKind.{StimulusKind}
-use Rattle.cl_model.specs.declared.stimulus.StimulusKind.TheVariants.{Periodic, Sporadic, Burst}
-use Rattle.cl_model.specs.Timing.{least_distance, greatest_distance}
+use Rattle.cl_model.specs.{declared.stimulus.StimulusKind.{StimulusKind, TheVariants.{Periodic, Sporadic, Burst}}, Timing.{least_distance, greatest_distance}}
 use Rattle.cl_runs.specs.Pattern.{IsPattern, first_least, first_greatest, burst_gap, least_gap, greatest_gap}
 
 pub first_ordered : (pattern : StimulusKind) → IsPattern pattern → first_least pattern ≤ first_greatest pattern

@@ -1,11 +1,7 @@
 -- What the jobs that follow a pattern look like, for each kind of pattern.
 use Rattle.std.proofs.Common.{◌≡◌, ℕ, zero, suc, ◌+◌, ◌-◌, ◌*◌, ◌<◌, ◌≤◌, List, [], ◌∷◌, length, refl, arith}
-use Rattle.cl_model.specs.declared.stimulus.StimulusKind.{StimulusKind}
-use Rattle.cl_model.specs.declared.stimulus.StimulusKind.TheVariants.{Periodic, Sporadic}
-use Rattle.cl_runs.specs.declared.job.Job.{Job}
-use Rattle.cl_runs.specs.Arrivals.{IsArrival, AreArrivalsFrom, FollowPattern}
-use Rattle.cl_runs.specs.Table.{job_at}
-use Rattle.cl_runs.specs.ArrivalsByKind.{FollowsPeriod, FollowsGaps}
+use Rattle.cl_model.specs.declared.stimulus.StimulusKind.{StimulusKind, TheVariants.{Periodic, Sporadic}}
+use Rattle.cl_runs.specs.{declared.job.Job.Job, Arrivals.{IsArrival, AreArrivalsFrom, FollowPattern}, Table.job_at, ArrivalsByKind.{FollowsPeriod, FollowsGaps}}
 use Rattle.cl_runs.proofs.ExactArrivals.{moved, job_moved, exact_each, exact_end, exact_back}
 
 -- periodic: job k arrives k periods after the first

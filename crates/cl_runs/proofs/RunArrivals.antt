@@ -2,11 +2,7 @@
 use Rattle.std.proofs.Common.{◌≡◌, ℕ, suc, ◌+◌, ◌<◌, ◌≤◌, inl, inr, length, ap, arith}
 use Rattle.std.proofs.lemmas.Bool.{cases_lt}
 use Rattle.cl_model.specs.Timing.{least_distance, greatest_distance, greatest_jitter}
-use Rattle.cl_runs.specs.TaskTiming.{System, timing_at, IsSound}
-use Rattle.cl_runs.specs.Arrivals.{FollowPattern}
-use Rattle.cl_runs.specs.Table.{job_at}
-use Rattle.cl_runs.specs.Run.{Run, jobs_of}
-use Rattle.cl_runs.specs.Legal.{IsLegal}
+use Rattle.cl_runs.specs.{TaskTiming.{System, timing_at, IsSound}, Arrivals.FollowPattern, Table.job_at, Run.{Run, jobs_of}, Legal.IsLegal}
 use Rattle.cl_runs.proofs.ArrivalFacts as facts
 
 module _ (system : System) (sound : IsSound system) (run : Run) (legal : IsLegal system run) (i : ℕ) (is : i < length system.tasks) where

@@ -1,13 +1,8 @@
 -- What is scheduled: there is always one entry, and it is the only one.
 use Rattle.std.proofs.Common.{◌≡◌, ℕ, zero, suc, ◌<◌, ◌≤◌, ◌⊎◌, ◌↔◌, inl, inr, Option, Some, None, length, refl, sym, ap, ◌∙◌, arith}
 use Rattle.std.proofs.lemmas.Bool.{cases_lt, cases_eq}
-use Rattle.cl_runs.specs.TaskTiming.{System, timing_at, IsSound}
-use Rattle.cl_runs.specs.declared.job.JobTable.{JobTable}
-use Rattle.cl_runs.specs.Table.{table_jobs}
-use Rattle.cl_runs.specs.Run.{IsEntryOf}
-use Rattle.cl_runs.specs.Legal.{released, IsPending, IsHighestPending, IsNonePending, IsTaskHeld, IsFirstHeld, IsNoneHeld, IsScheduled}
-use Rattle.cl_runs.proofs.FirstBelow.{IsFirst, both_or_not, first_or_none}
-use Rattle.cl_runs.proofs.HeldTasks.{held_or_not}
+use Rattle.cl_runs.specs.{TaskTiming.{System, timing_at, IsSound}, declared.job.JobTable.JobTable, Table.table_jobs, Run.IsEntryOf, Legal.{released, IsPending, IsHighestPending, IsNonePending, IsTaskHeld, IsFirstHeld, IsNoneHeld, IsScheduled}}
+use Rattle.cl_runs.proofs.{FirstBelow.{IsFirst, both_or_not, first_or_none}, HeldTasks.held_or_not}
 
 -- two tables with their executed ticks are alike at a moment, as far as the tasks of one core go
 pub record AreAlike (system : System) (table other : JobTable) (done other_done : ℕ → ℕ) (t core : ℕ) : Type 0 where
@@ -17,22 +12,11 @@ pub record AreAlike (system : System) (table other : JobTable) (done other_done 
   pub held : (i : ℕ) → i < length system.tasks → (timing_at system i).core ≡ core
       → IsTaskHeld system table done i ↔ IsTaskHeld system other other_done i
 
-pub alike_back : (system : System) (table other : JobTable) (done other_done : ℕ → ℕ) (t core : ℕ)
-    → AreAlike system table other done other_done t core → AreAlike system other table other_done done t core
-alike_back system table other done other_done t core alike = record {
-  executed = λ i h on. sym (alike.executed i h on);
-  released = λ i h on. sym (alike.released i h on);
-  held = λ i h on. let both = alike.held i h on in (both.1, both.0);
-}
-
 less_along : (a b c d : ℕ) → a ≡ c → b ≡ d → a < b → c < d
 less_along a b c d e f h = omega arith
 
 module _ (system : System) (table other : JobTable) (done other_done : ℕ → ℕ) (t core : ℕ)
     (alike : AreAlike system table other done other_done t core) where
-  back : AreAlike system other table other_done done t core
-  back = alike_back system table other done other_done t core alike
-
   pending_alike : (i : ℕ) → i < length system.tasks → (timing_at system i).core ≡ core
       → IsPending table done t i → IsPending other other_done t i
   pending_alike i h on pending = less_along _ _ _ _ (alike.executed i h on) (alike.released i h on) pending

@@ -2,12 +2,8 @@
 use Rattle.std.proofs.Common.{◌≡◌, ℕ, suc, ◌<◌, ◌≤◌, inl, inr, Option, Some, None, List, length, get_or, sym, ap, ◌∙◌, arith}
 use Rattle.std.proofs.lemmas.Bool.{cases_lt}
 use Rattle.std.proofs.lemmas.List.{get_or_past}
-use Rattle.cl_runs.specs.TaskTiming.{System, timing_at}
-use Rattle.cl_runs.specs.Run.{Run, jobs_of, core_entries, executed}
-use Rattle.cl_runs.specs.Work.{work_before, work_through}
-use Rattle.cl_runs.specs.Moments.{Starts, Finishes}
-use Rattle.cl_runs.proofs.Climbing.{GrowsAt, climb_mono, climb_lt, climb_reaches, climb_grows, grows_once}
-use Rattle.cl_runs.proofs.Executed.{executed_zero, executed_climbs, executed_grew, executed_more}
+use Rattle.cl_runs.specs.{TaskTiming.{System, timing_at}, Run.{Run, jobs_of, core_entries, executed}, Work.{work_before, work_through}, Moments.{Starts, Finishes}}
+use Rattle.cl_runs.proofs.{Climbing.{GrowsAt, climb_mono, climb_lt, climb_reaches, climb_grows, grows_once}, Executed.{executed_zero, executed_climbs, executed_grew, executed_more}}
 
 -- a tick in which a task runs is one of the core's entries
 pub runs_below : (entries : List (Option ℕ)) (t i : ℕ) → get_or entries t None ≡ Some i → t < length entries

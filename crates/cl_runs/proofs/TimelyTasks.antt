@@ -1,9 +1,7 @@
 -- A model each task of which is timely meets its deadlines.
 use Rattle.std.proofs.Common.{ℕ, ◌<◌, length, arith}
 use Rattle.cl_model.specs.declared.model.SystemModel.{SystemModel}
-use Rattle.cl_runs.specs.SystemOf.{system_of}
-use Rattle.cl_runs.specs.Responses.{IsTimely}
-use Rattle.cl_runs.specs.Requirements.{MeetsDeadlines}
+use Rattle.cl_runs.specs.{SystemOf.system_of, Responses.IsTimely, Requirements.MeetsDeadlines}
 
 module _ (model : SystemModel) (response : ℕ → ℕ) (timely : (task : ℕ) → task < length model.tasks → IsTimely (system_of model) task (response task)) where
   pub meets_deadlines : MeetsDeadlines model

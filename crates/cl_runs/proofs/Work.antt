@@ -6,10 +6,7 @@ use Rattle.std.proofs.lemmas.Bool.Decides.{nat_tests}
 use Rattle.std.proofs.lemmas.Bool.{cond-true, cond-false, le-leb, lt-leb}
 use Rattle.std.proofs.lemmas.List.{take-take, take_all, get_or-take, length-take}
 use Rattle.std.proofs.lemmas.List.Sums.{sum_by-cons, sum_by-le-sum_by, sum_by-take-le, sum_by_more, sum_by_more_le}
-use Rattle.cl_runs.specs.declared.job.Job.{Job}
-use Rattle.cl_runs.specs.Table.{job_at, no_job}
-use Rattle.cl_runs.specs.Legal.{released}
-use Rattle.cl_runs.specs.Work.{work_before, work_through}
+use Rattle.cl_runs.specs.{declared.job.Job.Job, Table.{job_at, no_job}, Legal.released, Work.{work_before, work_through}}
 
 -- the time of a whole job, and of all jobs
 abbrev pub job_time : Job → ℕ
@@ -74,11 +71,6 @@ places_rise jobs k p q h = omega (arith, sum_take_mono (λ (x : ℕ). x) (job_at
 pub through_place : (jobs : List Job) (k p : ℕ) → p < length (job_at jobs k).times → work_through jobs k p ≡ work_before jobs k (suc p)
 unfolding work_before
 through_place jobs k p h = let more = sum_by_more (λ (x : ℕ). x) (job_at jobs k).times p 0 h in omega (arith, rw add-one at more)
-
--- the work through a job of the list is within the time of all jobs
-pub through_total : (jobs : List Job) (k p : ℕ) → k < length jobs → p < length (job_at jobs k).times
-    → work_through jobs k p ≤ total_time jobs
-through_total jobs k p hk hp = omega (arith, through_job jobs k p hk hp, sum_by-take-le (λ (job : Job). sum job.times) jobs (suc k))
 
 -- past the last job, all of them stand before
 pub before_past : (jobs : List Job) (k p : ℕ) → length jobs ≤ k → total_time jobs ≤ work_before jobs k p

@@ -1,9 +1,7 @@
 -- Which lists of jobs arrive and are released as a pattern says. Execution times play no part.
 use Rattle.std.specs.Prelude.{ℕ, suc, ◌+◌, ◌<◌, ◌≤◌, List, [], ◌∷◌}
-use Rattle.cl_model.specs.declared.stimulus.StimulusKind.{StimulusKind}
-use Rattle.cl_model.specs.Timing.{greatest_jitter}
-use Rattle.cl_runs.specs.declared.job.Job.{Job}
-use Rattle.cl_runs.specs.Pattern.{first_least, first_greatest, least_gap, greatest_gap}
+use Rattle.cl_model.specs.{declared.stimulus.StimulusKind.StimulusKind, Timing.greatest_jitter}
+use Rattle.cl_runs.specs.{declared.job.Job.Job, Pattern.{first_least, first_greatest, least_gap, greatest_gap}}
 
 -- a job that arrives in [low, high] and in the first `ticks` ticks, and is released within the jitter of its arrival
 pub record IsArrival (pattern : StimulusKind) (ticks low high : ℕ) (job : Job) : Type 0 where

@@ -1,9 +1,7 @@
 -- The arrivals of a list of jobs that follow a pattern, in the words of each kind of pattern.
 use Rattle.std.specs.Prelude.{◌≡◌, ℕ, suc, ◌+◌, ◌-◌, ◌*◌, ◌<◌, ◌≤◌, List, length}
 use Rattle.cl_model.specs.declared.stimulus.StimulusKind.TheVariants.{Periodic, Sporadic, Burst}
-use Rattle.cl_runs.specs.declared.job.Job.{Job}
-use Rattle.cl_runs.specs.Arrivals.{IsArrival}
-use Rattle.cl_runs.specs.Table.{job_at}
+use Rattle.cl_runs.specs.{declared.job.Job.Job, Arrivals.IsArrival, Table.job_at}
 
 -- periodic: job k arrives at `offset + k * period`, and the arrival after the last one isn't below `ticks`
 pub record FollowsPeriod (ticks period offset jitter : ℕ) (jobs : List Job) : Type 0 where

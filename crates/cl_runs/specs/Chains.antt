@@ -1,7 +1,6 @@
 -- Job chains over any read and write moments of groups.
 use Rattle.std.specs.Prelude.{◌≡◌, ℕ, suc, ◌+◌, ◌-◌, ◌<◌, ◌≤◌, List, length, slice_index}
-use Rattle.cl_model.specs.declared.group.Group.{Group}
-use Rattle.cl_model.specs.Groups.{group_at}
+use Rattle.cl_model.specs.{declared.group.Group.Group, Groups.group_at}
 
 -- at which ticks the jobs of groups read and write: `reads group job tick`, and so for writes
 pub record Moments : Type 1 where

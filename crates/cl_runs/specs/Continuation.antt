@@ -1,13 +1,7 @@
 -- When one legal run goes on from another, with the same moments and chains.
 use Rattle.std.specs.Prelude.{◌≡◌, ℕ, ◌↔◌, ◌<◌, ◌≤◌, List}
 use Rattle.cl_model.specs.declared.group.Group.{Group}
-use Rattle.cl_runs.specs.TaskTiming.{System}
-use Rattle.cl_runs.specs.Run.{Run}
-use Rattle.cl_runs.specs.Legal.{IsLegal}
-use Rattle.cl_runs.specs.Moments.{Starts, Finishes, Reads, Writes}
-use Rattle.cl_runs.specs.GoesOn.{GoesOn}
-use Rattle.cl_runs.specs.Chains.{JobChain, IsForwardChain, IsAgeChain, IsReducedChain}
-use Rattle.cl_runs.specs.RunChains.{run_moments}
+use Rattle.cl_runs.specs.{TaskTiming.System, Run.Run, Legal.IsLegal, Moments.{Starts, Finishes, Reads, Writes}, GoesOn.GoesOn, Chains.{JobChain, IsForwardChain, IsAgeChain, IsReducedChain}, RunChains.run_moments}
 
 -- the longer run goes on from the shorter, both legal: what starts or reads below the shorter end, and what finishes or
 -- writes by then, does so in both at the same moment, and each complete chain of the shorter is one of the longer

@@ -1,12 +1,7 @@
 -- Chains from the arrival of their first job: how long it takes an event that comes with the job that reads it.
 use Rattle.std.specs.Prelude.{◌≡◌, ℕ, suc, ◌<◌, ◌≤◌, List, length, slice_index}
-use Rattle.cl_model.specs.declared.group.Group.{Group}
-use Rattle.cl_model.specs.Groups.{group_at}
-use Rattle.cl_runs.specs.TaskTiming.{System}
-use Rattle.cl_runs.specs.Table.{job_at}
-use Rattle.cl_runs.specs.Run.{Run, jobs_of}
-use Rattle.cl_runs.specs.Chains.{HasWritten, IsEarliestReader, JobChain, first_group, last_group, first_job, last_job}
-use Rattle.cl_runs.specs.RunChains.{run_moments}
+use Rattle.cl_model.specs.{declared.group.Group.Group, Groups.group_at}
+use Rattle.cl_runs.specs.{TaskTiming.System, Table.job_at, Run.{Run, jobs_of}, Chains.{HasWritten, IsEarliestReader, JobChain, first_group, last_group, first_job, last_job}, RunChains.run_moments}
 
 -- a chain of a run that takes an event on: each job has written, and each after the first has number 1 or more and is the
 -- earliest reader of the one before it; the first may be job 0. It lasts from the arrival of the first to the write of

@@ -1,7 +1,6 @@
 -- When one run goes on from another.
 use Rattle.std.specs.Prelude.{◌≡◌, ℕ, ◌<◌, ◌≤◌, length, take}
-use Rattle.cl_runs.specs.Table.{job_at}
-use Rattle.cl_runs.specs.Run.{Run, jobs_of, core_entries}
+use Rattle.cl_runs.specs.{Table.job_at, Run.{Run, jobs_of, core_entries}}
 
 -- the longer run goes on from the shorter: it has the same first jobs of each task, each further job arrives at the
 -- end of the shorter run or later, and each core's entries of the shorter run are its first ones

@@ -1,8 +1,6 @@
 -- Which tasks are held: those that have begun a whole runnable and not finished it.
 use Rattle.std.specs.Prelude.{◌≡◌, ℕ, true, ◌<◌, List, length}
-use Rattle.cl_runs.specs.TaskTiming.{Timing, range_at}
-use Rattle.cl_runs.specs.declared.job.Job.{Job}
-use Rattle.cl_runs.specs.Work.{work_before, work_through}
+use Rattle.cl_runs.specs.{TaskTiming.{Timing, range_at}, declared.job.Job.Job, Work.{work_before, work_through}}
 
 -- a task with so many executed ticks is held in a runnable of a job: the runnable is whole, begun, and not finished
 pub record IsHeldIn (task : Timing) (jobs : List Job) (job place executed : ℕ) : Type 0 where

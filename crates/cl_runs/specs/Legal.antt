@@ -1,11 +1,6 @@
 -- Which runs are legal: partitioned fixed-priority scheduling, preemptive but for whole runnables.
 use Rattle.std.specs.Prelude.{◌≡◌, ℕ, Option, Some, None, cond, nat_le, ◌<◌, ◌≤◌, ◌⊎◌, List, length, sum, sum_by}
-use Rattle.cl_runs.specs.TaskTiming.{System, timing_at}
-use Rattle.cl_runs.specs.declared.job.Job.{Job}
-use Rattle.cl_runs.specs.declared.job.JobTable.{JobTable}
-use Rattle.cl_runs.specs.Table.{table_jobs, IsLawful}
-use Rattle.cl_runs.specs.Held.{IsHeld}
-use Rattle.cl_runs.specs.Run.{Run, entry_at, executed, IsInForm}
+use Rattle.cl_runs.specs.{TaskTiming.{System, timing_at}, declared.job.{Job.Job, JobTable.JobTable}, Table.{table_jobs, IsLawful}, Held.IsHeld, Run.{Run, entry_at, executed, IsInForm}}
 
 -- the total time of the jobs that are released at or before a moment
 unfoldable pub released : List Job → (moment : ℕ) → ℕ

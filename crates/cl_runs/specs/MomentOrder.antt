@@ -1,9 +1,7 @@
 -- When the moments at which the jobs of some groups read and write are in order.
 use Rattle.std.specs.Prelude.{◌≡◌, ℕ, ◌<◌, List, length, All}
-use Rattle.cl_model.specs.declared.group.Group.{Group}
-use Rattle.cl_runs.specs.TaskTiming.{System}
-use Rattle.cl_model.specs.Groups.{group_at}
-use Rattle.cl_runs.specs.Chains.{Moments}
+use Rattle.cl_model.specs.{declared.group.Group.Group, Groups.group_at}
+use Rattle.cl_runs.specs.{TaskTiming.System, Chains.Moments}
 
 -- each job of the groups reads at most once, and writes at most once
 pub record AreUnique (moments : Moments) (groups : List Group) : Type 0 where

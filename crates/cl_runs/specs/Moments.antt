@@ -1,12 +1,7 @@
 -- When the runnables of a job start and finish, and when they read and write.
 use Rattle.std.specs.Prelude.{◌≡◌, ℕ, Some, ◌+◌, ◌-◌, ◌<◌, ◌≤◌, length}
-use Rattle.cl_model.specs.declared.task.AccessKind.{AccessKind}
-use Rattle.cl_model.specs.declared.task.AccessKind.TheVariants.{Explicit, Implicit, Timed}
-use Rattle.cl_runs.specs.TaskTiming.{System, timing_at}
-use Rattle.cl_runs.specs.Table.{job_at}
-use Rattle.cl_runs.specs.Work.{work_before, work_through}
-use Rattle.cl_runs.specs.Held.{IsHeld}
-use Rattle.cl_runs.specs.Run.{Run, jobs_of, entry_at, executed}
+use Rattle.cl_model.specs.declared.task.AccessKind.{AccessKind, TheVariants.{Explicit, Implicit, Timed}}
+use Rattle.cl_runs.specs.{TaskTiming.{System, timing_at}, Table.job_at, Work.{work_before, work_through}, Held.IsHeld, Run.{Run, jobs_of, entry_at, executed}}
 
 -- a task is held at a moment
 abbrev pub IsHeldAt : System → Run → (task moment : ℕ) → Type 0

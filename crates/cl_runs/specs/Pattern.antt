@@ -1,8 +1,7 @@
 -- When the jobs of a task arrive, by the kind of its stimulus and the number of the job.
 -- source: AMALTHEA's periodic, sporadic and periodic burst stimuli; their meaning in whole ticks is said here
 use Rattle.std.specs.Prelude.{ℕ, suc, ◌-◌, ◌*◌, ◌%◌, ◌≤◌, cond, nat_lt}
-use Rattle.cl_model.specs.declared.stimulus.StimulusKind.{StimulusKind}
-use Rattle.cl_model.specs.declared.stimulus.StimulusKind.TheVariants.{Periodic, Sporadic, Burst}
+use Rattle.cl_model.specs.declared.stimulus.StimulusKind.{StimulusKind, TheVariants.{Periodic, Sporadic, Burst}}
 
 -- a well-formed pattern: jobs arrive at least one tick apart, no least gap is greater than its greatest, and a burst
 -- has a job and fits its period

@@ -1,23 +1,8 @@
 -- What it means that a requirement of a model is kept or broken, and that a model is in time. Times are in ticks.
 use Rattle.std.specs.Prelude.{◌≡◌, ℕ, ◌+◌, ◌<◌, ◌≤◌, List, [], length, slice_index_or, unwrap_or}
-use Rattle.cl_model.specs.declared.chain.LengthKind.{LengthKind}
-use Rattle.cl_model.specs.declared.chain.LengthKind.TheVariants.{Reaction, Age, Reduced}
-use Rattle.cl_model.specs.declared.chain.RequirementKind.{RequirementKind}
-use Rattle.cl_model.specs.declared.chain.RequirementKind.TheVariants.{Length, Delay}
-use Rattle.cl_model.specs.declared.chain.RequirementDef.{RequirementDef}
-use Rattle.cl_model.specs.declared.group.Group.{Group}
-use Rattle.cl_model.specs.declared.model.SystemModel.{SystemModel}
-use Rattle.cl_model.specs.ByNumber.{chain_named}
+use Rattle.cl_model.specs.{declared.{chain.{LengthKind.{LengthKind, TheVariants.{Reaction, Age, Reduced}}, RequirementKind.{RequirementKind, TheVariants.{Length, Delay}}, RequirementDef.RequirementDef}, group.Group.Group, model.SystemModel.SystemModel}, ByNumber.chain_named}
 use Rattle.cl_model.specs.Groups.{groups_at}
-use Rattle.cl_runs.specs.TaskTiming.{System, timing_at}
-use Rattle.cl_runs.specs.SystemOf.{system_of}
-use Rattle.cl_runs.specs.Table.{job_at}
-use Rattle.cl_runs.specs.Run.{Run, jobs_of}
-use Rattle.cl_runs.specs.Legal.{IsLegal}
-use Rattle.cl_runs.specs.Moments.{JobFinishes}
-use Rattle.cl_runs.specs.Chains.{Moments, JobChain, chain_length, IsForwardChain, IsAgeChain, IsReducedChain}
-use Rattle.cl_runs.specs.RunChains.{run_moments}
-use Rattle.cl_runs.specs.Delays.{IsDelayChain}
+use Rattle.cl_runs.specs.{TaskTiming.{System, timing_at}, SystemOf.system_of, Table.job_at, Run.{Run, jobs_of}, Legal.IsLegal, Moments.JobFinishes, Chains.{Moments, JobChain, chain_length, IsForwardChain, IsAgeChain, IsReducedChain}, RunChains.run_moments, Delays.IsDelayChain}
 
 -- ---- requirements by number
 

@@ -1,10 +1,6 @@
 -- Jobs that finish within a response of their arrival, in legal runs. Times are in ticks.
 use Rattle.std.specs.Prelude.{ℕ, ◌+◌, ◌<◌, ◌≤◌, length}
-use Rattle.cl_runs.specs.TaskTiming.{System, timing_at}
-use Rattle.cl_runs.specs.Table.{job_at}
-use Rattle.cl_runs.specs.Run.{Run, jobs_of}
-use Rattle.cl_runs.specs.Legal.{IsLegal}
-use Rattle.cl_runs.specs.Moments.{JobFinishes}
+use Rattle.cl_runs.specs.{TaskTiming.{System, timing_at}, Table.job_at, Run.{Run, jobs_of}, Legal.IsLegal, Moments.JobFinishes}
 
 -- each job of a task that arrives `response` or more before the end of a run finishes within `response` of its arrival
 pub record FinishesWithin (system : System) (run : Run) (task response : ℕ) : Type 0 where

@@ -1,9 +1,6 @@
 -- Runs: a job table, and for each core which task runs in each tick.
 use Rattle.std.specs.Prelude.{◌≡◌, ℕ, Bool, false, Option, Some, None, ◌==◌, ◌<◌, List, [], length, slice_index_or, take, count_by, replicate}
-use Rattle.cl_runs.specs.TaskTiming.{System, timing_at}
-use Rattle.cl_runs.specs.declared.job.Job.{Job}
-use Rattle.cl_runs.specs.declared.job.JobTable.{JobTable}
-use Rattle.cl_runs.specs.Table.{job_at, table_jobs}
+use Rattle.cl_runs.specs.{TaskTiming.{System, timing_at}, declared.job.{Job.Job, JobTable.JobTable}, Table.{job_at, table_jobs}}
 
 -- a job table and, for each core, one entry a tick: the task that runs, or none where the core idles
 pub record Run : Type 0 where

@@ -1,11 +1,7 @@
 -- The two uses of job chains: over the moments of a run, and over the ideal moments of periodic timed tasks.
 use Rattle.std.specs.Prelude.{◌≡◌, ℕ, ◌+◌, ◌*◌}
-use Rattle.cl_model.specs.declared.stimulus.StimulusKind.{StimulusKind}
-use Rattle.cl_model.specs.declared.stimulus.StimulusKind.TheVariants.{Periodic, Sporadic, Burst}
-use Rattle.cl_runs.specs.TaskTiming.{System, timing_at}
-use Rattle.cl_runs.specs.Run.{Run}
-use Rattle.cl_runs.specs.Moments.{Reads, Writes}
-use Rattle.cl_runs.specs.Chains.{Moments}
+use Rattle.cl_model.specs.declared.stimulus.StimulusKind.{StimulusKind, TheVariants.{Periodic, Sporadic, Burst}}
+use Rattle.cl_runs.specs.{TaskTiming.{System, timing_at}, Run.Run, Moments.{Reads, Writes}, Chains.Moments}
 
 -- a group reads at its first runnable and writes at its last
 unfoldable pub run_moments : System → Run → Moments

@@ -1,7 +1,6 @@
 -- Groups that read and write alike, maybe of two systems.
 use Rattle.std.specs.Prelude.{◌≡◌, ℕ, ◌<◌, ◌↔◌, List, length}
-use Rattle.cl_model.specs.declared.group.Group.{Group}
-use Rattle.cl_model.specs.Groups.{group_at}
+use Rattle.cl_model.specs.{declared.group.Group.Group, Groups.group_at}
 use Rattle.cl_runs.specs.Chains.{Moments}
 
 -- two lists have as many groups, and those of each place read and write at the same moments

@@ -1,10 +1,6 @@
 -- What the theory of runs needs of a model, computed from it: the timings of its tasks.
 use Rattle.std.specs.Prelude.{length, map}
-use Rattle.cl_model.specs.declared.model.SystemModel.{SystemModel}
-use Rattle.cl_model.specs.declared.task.RunnableDef.{RunnableDef}
-use Rattle.cl_model.specs.declared.task.TaskDef.{TaskDef}
-use Rattle.cl_model.specs.ByNumber.{core_number, stimulus_kind}
-use Rattle.cl_model.specs.Timing.{deadline_under}
+use Rattle.cl_model.specs.{declared.{model.SystemModel.SystemModel, task.{RunnableDef.RunnableDef, TaskDef.TaskDef}}, ByNumber.{core_number, stimulus_kind}, Timing.deadline_under}
 use Rattle.cl_runs.specs.TaskTiming.{TimeRange, Timing, System}
 
 -- the range of a runnable

@@ -1,10 +1,7 @@
 -- Which job tables are lawful.
 use Rattle.std.specs.Prelude.{◌≡◌, ℕ, ◌<◌, ◌≤◌, List, [], length, slice_index_or, All}
 use Rattle.std.specs.List.{AllZip}
-use Rattle.cl_runs.specs.declared.job.Job.{Job}
-use Rattle.cl_runs.specs.declared.job.JobTable.{JobTable}
-use Rattle.cl_runs.specs.Arrivals.{FollowPattern}
-use Rattle.cl_runs.specs.TaskTiming.{TimeRange, Timing, System, timing_at}
+use Rattle.cl_runs.specs.{declared.job.{Job.Job, JobTable.JobTable}, Arrivals.FollowPattern, TaskTiming.{TimeRange, Timing, System, timing_at}}
 
 -- what stands past the last job
 unfoldable pub no_job : Job

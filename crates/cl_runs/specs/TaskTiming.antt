@@ -1,10 +1,6 @@
 -- What the theory of runs needs to know of a model: a number of cores, and the timing of each task.
 use Rattle.std.specs.Prelude.{◌≡◌, ℕ, Bool, false, ◌<◌, ◌≤◌, List, [], length, slice_index_or, All}
-use Rattle.cl_model.specs.declared.stimulus.StimulusKind.{StimulusKind}
-use Rattle.cl_model.specs.declared.stimulus.StimulusKind.TheVariants.{Periodic}
-use Rattle.cl_model.specs.declared.task.AccessKind.{AccessKind}
-use Rattle.cl_model.specs.declared.task.AccessKind.TheVariants.{Timed}
-use Rattle.cl_model.specs.Timing.{least_distance, greatest_jitter}
+use Rattle.cl_model.specs.{declared.{stimulus.StimulusKind.{StimulusKind, TheVariants.Periodic}, task.AccessKind.{AccessKind, TheVariants.Timed}}, Timing.{least_distance, greatest_jitter}}
 use Rattle.cl_runs.specs.Pattern.{IsPattern}
 
 -- a job's execution time of a runnable lies in [least, greatest]; a whole runnable isn't interrupted

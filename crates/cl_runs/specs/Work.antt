@@ -1,7 +1,6 @@
 -- The work of a task's jobs: sums of their execution times.
 use Rattle.std.specs.Prelude.{ℕ, ◌+◌, List, take, sum, sum_by, slice_index}
-use Rattle.cl_runs.specs.declared.job.Job.{Job}
-use Rattle.cl_runs.specs.Table.{job_at}
+use Rattle.cl_runs.specs.{declared.job.Job.Job, Table.job_at}
 
 -- the total time of a task's jobs and runnables before a runnable of a job
 unfoldable pub work_before : List Job → (job place : ℕ) → ℕ

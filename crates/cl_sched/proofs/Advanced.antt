@@ -3,18 +3,10 @@ use Rattle.std.proofs.Common.{◌≡◌, ◌≢◌, ℕ, ◌+◌, ◌<◌, ◌�
 use Rattle.std.specs.Option.{option_map}
 use Rattle.std.proofs.lemmas.Bool.{cases_eq}
 use Rattle.std.proofs.lemmas.List.{length-replicate}
-use Rattle.cl_runs.specs.TaskTiming.{System, timing_at}
-use Rattle.cl_runs.specs.declared.job.JobTable.{JobTable}
-use Rattle.cl_runs.specs.Table.{table_jobs}
-use Rattle.cl_sched.specs.declared.progress.Progress.{Progress}
-use Rattle.cl_sched.specs.declared.core_progress.CoreProgress.{CoreProgress}
-use Rattle.cl_sched.specs.declared.core_progress.Next.{Next}
-use Rattle.cl_sched.specs.declared.core_progress.Waiting.{Waiting}
-use Rattle.cl_sched.specs.Progress.{IsAtRunnable, HasComeTo}
-use Rattle.cl_sched.specs.CoreProgress.{ticks_of, progress_at, IsOfCore, StandsAmong, AreOfCore, Holds, AreWaiting, IsBestOf, IsChoice, IsReached, IsNext}
-use Rattle.cl_sched.specs.Inner.Executing.{HasExecuted}
-use Rattle.cl_sched.proofs.Standing.{some_job_released, some_job_holds}
-use Rattle.cl_sched.proofs.Steady.{own_ticks, others_ticks, idle_ticks}
+use Rattle.cl_runs.specs.{TaskTiming.{System, timing_at}, declared.job.JobTable.JobTable, Table.table_jobs}
+use Rattle.cl_sched.specs.{declared.{progress.Progress.Progress, core_progress.{CoreProgress.CoreProgress, Next.Next, Waiting.Waiting}}, Progress.{IsAtRunnable, HasComeTo}, CoreProgress.{ticks_of, progress_at, IsOfCore, StandsAmong, AreOfCore, Holds, AreWaiting, IsBestOf, IsChoice}}
+use Rattle.cl_sched.specs.{CoreProgress.{IsReached, IsNext}, Inner.Executing.HasExecuted}
+use Rattle.cl_sched.proofs.{Standing.{some_job_released, some_job_holds}, Steady.{own_ticks, others_ticks, idle_ticks}}
 
 -- the same progress, after as many ticks of the task
 of_core_along : (system : System) (table : JobTable) (core : ℕ) (entries further : List (Option ℕ)) (progress : Progress)

@@ -1,19 +1,11 @@
 -- At tick 0 each task of a core stands before its first job.
-use Rattle.std.proofs.Common.{◌≡◌, ℕ, ◌<◌, inl, inr, Bool, None, List, [], length, get_or, sym, ap, ◌∙◌, subst, arith}
+use Rattle.std.proofs.Common.{◌≡◌, ℕ, ◌<◌, inl, inr, Bool, List, [], length, get_or, sym, ap, ◌∙◌, subst, arith}
 use Rattle.std.specs.Prelude.{◌==◌}
 use Rattle.std.proofs.lemmas.Bool.{cases_lt, cases_eq, eqb-true, eq-eqb}
-use Rattle.cl_model.specs.declared.model.SystemModel.{SystemModel}
-use Rattle.cl_model.specs.ByNumber.{task_at, core_of, tasks_of_core}
-use Rattle.cl_runs.specs.declared.job.Job.{Job}
-use Rattle.cl_runs.specs.declared.job.JobTable.{JobTable}
-use Rattle.cl_runs.specs.SystemOf.{system_of}
-use Rattle.cl_runs.specs.TaskTiming.{System, Timing, timing_at}
-use Rattle.cl_runs.specs.Table.{table_jobs}
+use Rattle.cl_model.specs.{declared.model.SystemModel.SystemModel, ByNumber.{task_at, core_of, tasks_of_core}}
+use Rattle.cl_runs.specs.{declared.job.JobTable.JobTable, SystemOf.system_of, TaskTiming.{Timing, timing_at}, Table.table_jobs}
 use Rattle.cl_runs.proofs.ModelSystem.{timing_is, count_is}
-use Rattle.cl_sched.specs.declared.progress.Progress.{Progress}
-use Rattle.cl_sched.specs.Progress.{HasComeTo, IsHolding}
-use Rattle.cl_sched.specs.CoreProgress.{progress_at, IsOfCore, StandsAmong, AreOfCore, IsHeldIndex}
-use Rattle.cl_sched.specs.Inner.Executing.{IsUnbegun}
+use Rattle.cl_sched.specs.{declared.progress.Progress.Progress, Progress.HasComeTo, CoreProgress.{progress_at, IsOfCore, StandsAmong, AreOfCore}, Inner.Executing.IsUnbegun}
 use Rattle.cl_sched.proofs.CoreLists.{passing, passing_there, passing_fine, passing_rise}
 
 -- each of the tasks of a core is on it
@@ -93,18 +85,3 @@ module _ (model : SystemModel) (table : JobTable) (core : ℕ) (tasks : List Pro
 
   pub all_of_core : AreOfCore (system_of model) table core [] tasks
   all_of_core = record { each = of_core; all = listed; once = once }
-
--- where nothing is executed, no task is held
-nothing_holds : (task : Timing) (jobs : List Job) (progress : Progress) → HasComeTo jobs 0 progress → IsHolding task jobs progress → ⊥
-nothing_holds task jobs progress (inl at) holding = omega (arith, at.reached, holding.begun)
-nothing_holds task jobs progress (inr past) holding = omega (arith, past.past, holding.in_table)
-
-pub none_held_yet : (system : System) (table : JobTable) (core : ℕ) (tasks : List Progress) → AreOfCore system table core [] tasks
-    → IsHeldIndex system table tasks None
-none_held_yet system table core tasks of = record {
-  within = λ index some. cc;
-  holds = λ index some. cc;
-  alone = λ index h holds.
-      absurd (nothing_holds (timing_at system (progress_at tasks index).task) (table_jobs table (progress_at tasks index).task) (progress_at tasks index)
-      (of.each index h).has_come holds);
-}

@@ -1,17 +1,10 @@
 -- Tables of which each job has one time per runnable.
-use Rattle.std.proofs.Common.{◌≡◌, ℕ, ◌<◌, inl, inr, Bool, false, List, [], length, ap, arith}
+use Rattle.std.proofs.Common.{inl, inr, Bool, List, length, ap, arith}
 use Rattle.std.proofs.lemmas.Bool.{cases_Bool}
-use Rattle.cl_runs.specs.TaskTiming.{System, timing_at}
-use Rattle.cl_runs.specs.declared.job.JobTable.{JobTable}
-use Rattle.cl_runs.specs.Table.{no_job, job_at, table_jobs, IsLawful}
+use Rattle.cl_runs.specs.{TaskTiming.{System, timing_at}, declared.job.JobTable.JobTable, Table.{no_job, job_at, table_jobs}}
 use Rattle.cl_runs.proofs.LawfulJobs.{times_length}
-use Rattle.cl_runs.proofs.NextTable.{lawful_times}
 use Rattle.cl_run_data.specs.Parts.{is_among, IsLawfulOn, HasNoOtherJobs}
 use Rattle.cl_sched.specs.CoreTables.{HaveTimes}
-
--- a lawful table
-pub lawful_have_times : (system : System) (table : JobTable) → IsLawful system table → HaveTimes system table
-lawful_have_times system table lawful = record { each = lawful_times system table lawful }
 
 -- one that is lawful on some cores, and has no jobs of other tasks
 pub part_have_times : (system : System) (cores : List Bool) (table : JobTable) → IsLawfulOn system cores table

@@ -2,15 +2,8 @@
 use Rattle.std.proofs.Common.{◌≡◌, ℕ, ◌+◌, ◌<◌, ◌↔◌, Some, Bool, List, length, get_or, set, sym, ap, ◌∙◌, subst}
 use Rattle.std.specs.Prelude.{IsTrue}
 use Rattle.std.proofs.lemmas.List.{get_or_default, get_or-set_same, get_or-set_other, length-set}
-use Rattle.cl_runs.specs.TaskTiming.{System}
-use Rattle.cl_runs.specs.declared.job.Job.{Job}
-use Rattle.cl_runs.specs.declared.job.JobTable.{JobTable}
-use Rattle.cl_runs.specs.Table.{table_jobs}
-use Rattle.cl_sched.specs.declared.progress.Progress.{Progress}
-use Rattle.cl_sched.specs.declared.core_progress.CoreProgress.{CoreProgress}
-use Rattle.cl_sched.specs.Progress.{IsAtRunnable, HasComeTo}
-use Rattle.cl_sched.specs.CoreProgress.{no_progress, progress_at, Holds}
-use Rattle.cl_sched.specs.Inner.Executing.{HasExecuted}
+use Rattle.cl_runs.specs.{TaskTiming.System, declared.job.{Job.Job, JobTable.JobTable}, Table.table_jobs}
+use Rattle.cl_sched.specs.{declared.{progress.Progress.Progress, core_progress.CoreProgress.CoreProgress}, Progress.{IsAtRunnable, HasComeTo}, CoreProgress.{no_progress, progress_at, Holds}, Inner.Executing.HasExecuted}
 
 -- the progress at an index, read with any default
 pub progress_read : (tasks : List Progress) (index : ℕ) (task : Progress) → index < length tasks → task ≡ get_or tasks index task

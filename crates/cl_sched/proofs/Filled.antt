@@ -1,15 +1,10 @@
 -- Filling the entries of a core: what is filled stays what is scheduled, as further entries come.
 use Rattle.std.proofs.Common.{◌≡◌, ◌≢◌, ℕ, ◌+◌, ◌-◌, ◌<◌, ◌≤◌, inl, inr, Option, None, List, [], ◌++◌, replicate, length, get_or, set, take, refl, sym, ap, ◌∙◌, subst, arith, length-append}
-use Rattle.std.proofs.lemmas.Bool.{cases_lt, cases_eq}
+use Rattle.std.proofs.lemmas.Bool.{cases_lt}
 use Rattle.std.proofs.lemmas.List.{length-replicate, length-set, get_or-set_same, get_or-set_other, get_or_append_left, get_or-append_right, get_or-replicate, take-append-le, take-replicate}
 use Rattle.std.proofs.Math.Seq.{take-append-add}
-use Rattle.cl_runs.specs.TaskTiming.{System}
-use Rattle.cl_runs.specs.declared.job.JobTable.{JobTable}
-use Rattle.cl_runs.specs.Run.{Run, core_entries}
-use Rattle.cl_runs.specs.Legal.{IsScheduled}
-use Rattle.cl_sched.specs.declared.core_progress.CoreProgress.{CoreProgress}
-use Rattle.cl_sched.specs.CoreProgress.{ticks_of, IsScheduledUntil, IsReached}
-use Rattle.cl_sched.specs.Inner.Filling.{AreScheduled, IsFilled, HasFilled}
+use Rattle.cl_runs.specs.{TaskTiming.System, declared.job.JobTable.JobTable, Run.{Run, core_entries}, Legal.IsScheduled}
+use Rattle.cl_sched.specs.{declared.core_progress.CoreProgress.CoreProgress, CoreProgress.{ticks_of, IsScheduledUntil, IsReached}, Inner.Filling.{AreScheduled, IsFilled}}
 
 module _ (system : System) (table : JobTable) (core : ℕ) (entries : List (Option ℕ)) (n : ℕ) (who : Option ℕ) where
   abbrev longer : List (Option ℕ)
@@ -51,18 +46,6 @@ pub record IsFilledTo (system : System) (core : ℕ) (start run : Run) (reached 
   pub reached_is : IsReached system run.table core (core_entries run core) reached
   pub scheduled : AreScheduled system run.table core (core_entries run core)
 
-pub filled_at_start : (system : System) (core : ℕ) (run : Run) (reached : CoreProgress) → core < length run.entries
-    → IsReached system run.table core (core_entries run core) reached → AreScheduled system run.table core (core_entries run core)
-    → IsFilledTo system core run run reached
-filled_at_start system core run reached is at scheduled = record {
-  is_core = is;
-  table = refl;
-  cores = refl;
-  others = λ other apart. refl;
-  reached_is = at;
-  scheduled = scheduled;
-}
-
 module _ (system : System) (core : ℕ) (start run : Run) (reached : CoreProgress) (filled : IsFilledTo system core start run reached) where
   -- filled further
   pub filled_further : (n until : ℕ) (who : Option ℕ) (new : Run) (moved : CoreProgress)
@@ -92,18 +75,6 @@ module _ (system : System) (core : ℕ) (start run : Run) (reached : CoreProgres
             (subst (λ (l : List (Option ℕ)). AreScheduled system run.table core l) (sym own) further);
       }
 
-  -- and filled to the end
-  pub filled_to_end : reached.tick ≡ start.table.ticks → HasFilled system core start run
-  filled_to_end end = record {
-    table = filled.table;
-    cores = filled.cores;
-    others = filled.others;
-    filled = record {
-      ticks = sym filled.reached_is.tick ∙ end ∙ ap (λ (t : JobTable). t.ticks) (sym filled.table);
-      scheduled = filled.scheduled;
-    };
-  }
-
 -- ---- one core after the other
 
 -- the cores below n are filled, and the others are empty
@@ -112,23 +83,3 @@ pub record AreFilledBelow (system : System) (n : ℕ) (start run : Run) : Type 0
   pub cores : length run.entries ≡ length start.entries
   pub filled : (core : ℕ) → core < n → IsFilled system run core
   pub empty : (core : ℕ) → n ≤ core → core_entries run core ≡ []
-
-pub filled_along : (system : System) (core : ℕ) (old new : Run) → new.table ≡ old.table → core_entries new core ≡ core_entries old core
-    → IsFilled system old core → IsFilled system new core
-filled_along system core old new table entries filled = record {
-  ticks = ap length entries ∙ filled.ticks ∙ ap (λ (t : JobTable). t.ticks) (sym table);
-  scheduled = subst (λ (t : JobTable). AreScheduled system t core (core_entries new core)) (sym table)
-      (subst (λ (l : List (Option ℕ)). AreScheduled system old.table core l) (sym entries) filled.scheduled);
-}
-
-pub one_more : (system : System) (n : ℕ) (start run new : Run) → AreFilledBelow system n start run → HasFilled system n run new
-    → AreFilledBelow system (n + 1) start new
-one_more system n start run new below has = record {
-  table = has.table ∙ below.table;
-  cores = has.cores ∙ below.cores;
-  filled = λ core h. elim (cases_eq core n) [
-    | inl same ↦ subst (λ c. IsFilled system new c) (sym same) has.filled
-    | inr apart ↦ filled_along system core run new has.table (has.others core apart) (below.filled core (omega (arith, h, apart)))
-  ];
-  empty = λ core h. has.others core (λ same. omega (arith, h, same)) ∙ below.empty core (omega (arith, h));
-}

@@ -10,10 +10,8 @@ use Rattle.std.proofs.slice.Orders.{nat_cmp-ltb}
 use Rattle.std.proofs.lemmas.Bool.{cases_eq, ltb-false, eq-eqb, ne_eqb}
 use Rattle.std.proofs.lemmas.List.Edits.{Swapped, swapped_from_swap, length-swap}
 use Rattle.std.proofs.lemmas.List.Sorted.{IsPermutation-keeps, IsStrictWeakOrder-flip, ranks_by, sorted_far}
-use Rattle.cl_runs.specs.TaskTiming.{System}
-use Rattle.cl_runs.specs.declared.job.JobTable.{JobTable}
-use Rattle.cl_sched.specs.declared.progress.Progress.{Progress}
-use Rattle.cl_sched.specs.CoreProgress.{no_progress, progress_at, IsOfCore, StandsAmong, AreOfCore, AreFalling}
+use Rattle.cl_runs.specs.{TaskTiming.System, declared.job.JobTable.JobTable}
+use Rattle.cl_sched.specs.{declared.progress.Progress.Progress, CoreProgress.{no_progress, progress_at, IsOfCore, StandsAmong, AreOfCore, AreFalling}}
 
 -- ---- by falling priority
 

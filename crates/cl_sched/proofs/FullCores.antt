@@ -1,15 +1,9 @@
 -- A run of which each core is filled is legal: what is scheduled on a core depends on the entries of that core alone.
 use Rattle.std.proofs.Common.{◌≡◌, ℕ, ◌<◌, length, take, refl, sym, ap, arith}
 use Rattle.std.specs.Prelude.{count_by}
-use Rattle.cl_runs.specs.TaskTiming.{System, timing_at}
-use Rattle.cl_runs.specs.Table.{table_jobs, IsLawful}
-use Rattle.cl_runs.specs.Run.{Run, core_entries, entry_at, is_task, executed}
-use Rattle.cl_runs.specs.Legal.{IsLegal}
-use Rattle.cl_runs.proofs.Filling.{legal_from}
-use Rattle.cl_runs.proofs.HeldTasks.{held_moved}
-use Rattle.cl_runs.proofs.Scheduling.{AreAlike, scheduled_alike}
-use Rattle.cl_sched.specs.CoreProgress.{ticks_of}
-use Rattle.cl_sched.specs.Inner.Filling.{IsFilled}
+use Rattle.cl_runs.specs.{TaskTiming.{System, timing_at}, Table.{table_jobs, IsLawful}, Run.{Run, core_entries, entry_at, is_task, executed}, Legal.IsLegal}
+use Rattle.cl_runs.proofs.{Filling.legal_from, HeldTasks.held_moved, Scheduling.{AreAlike, scheduled_alike}}
+use Rattle.cl_sched.specs.{CoreProgress.ticks_of, Inner.Filling.IsFilled}
 
 module _ (system : System) (run : Run) where
   own_ticks : (core tick i : ℕ) → (timing_at system i).core ≡ core → ticks_of (take tick (core_entries run core)) i ≡ executed system run i tick

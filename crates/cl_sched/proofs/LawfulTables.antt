@@ -2,14 +2,11 @@
 -- order.
 use Rattle.std.proofs.Common.{◌≡◌, ℕ, ◌<◌, ◌≤◌, inl, inr, Bool, true, List, length, ap, ◌∙◌, subst, arith}
 use Rattle.std.proofs.lemmas.Bool.{cases_lt}
-use Rattle.cl_runs.specs.TaskTiming.{System, timing_at, IsSound}
-use Rattle.cl_runs.specs.declared.job.JobTable.{JobTable}
-use Rattle.cl_runs.specs.Table.{no_job, job_at, table_jobs, HasTimes, IsLawful}
+use Rattle.cl_runs.specs.{TaskTiming.{System, timing_at, IsSound}, declared.job.JobTable.JobTable, Table.{no_job, job_at, table_jobs, HasTimes, IsLawful}}
 use Rattle.cl_runs.proofs.ArrivalFacts as facts
 use Rattle.cl_runs.proofs.LawfulJobs.{times_length, times_positive}
 use Rattle.cl_run_data.specs.Parts.{is_among, IsLawfulOn}
-use Rattle.cl_sched.specs.Inner.TakingTime.{TakeTime}
-use Rattle.cl_sched.specs.CoreProgress.{IsLawfulAt}
+use Rattle.cl_sched.specs.{Inner.TakingTime.TakeTime, CoreProgress.IsLawfulAt}
 
 -- a lawful table is lawful at each core
 pub lawful_at : (system : System) (core : ℕ) (table : JobTable) → IsLawful system table → IsLawfulAt system core table

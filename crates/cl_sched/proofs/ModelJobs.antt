@@ -1,20 +1,9 @@
 -- The jobs of a task of a valid model, where the table is lawful at its core.
 use Rattle.std.proofs.Common.{◌≡◌, ℕ, ◌<◌, inl, inr, List, length, refl, ap, ◌∙◌, arith}
-use Rattle.cl_model.specs.declared.model.SystemModel.{SystemModel}
-use Rattle.cl_model.specs.declared.task.RunnableDef.{RunnableDef}
-use Rattle.cl_model.specs.ByNumber.{task_at}
-use Rattle.cl_model.specs.Validity.{IsValid}
-use Rattle.cl_runs.specs.declared.job.Job.{Job}
-use Rattle.cl_runs.specs.declared.job.JobTable.{JobTable}
-use Rattle.cl_runs.specs.SystemOf.{system_of}
-use Rattle.cl_runs.specs.TaskTiming.{timing_at}
-use Rattle.cl_runs.specs.Table.{job_at, table_jobs}
+use Rattle.cl_model.specs.{declared.{model.SystemModel.SystemModel, task.RunnableDef.RunnableDef}, ByNumber.task_at, Validity.IsValid}
+use Rattle.cl_runs.specs.{declared.job.{Job.Job, JobTable.JobTable}, SystemOf.system_of, TaskTiming.timing_at, Table.{job_at, table_jobs}}
 use Rattle.cl_runs.proofs.ModelSystem.{count_is, range_count_is, system_sound}
-use Rattle.cl_sched.specs.declared.progress.Progress.{Progress}
-use Rattle.cl_sched.specs.Progress.{HasComeTo}
-use Rattle.cl_sched.specs.Inner.TakingTime.{TakeTime}
-use Rattle.cl_sched.specs.CoreProgress.{IsLawfulAt}
-use Rattle.cl_sched.specs.Inner.Executing.{IsInLists}
+use Rattle.cl_sched.specs.{declared.progress.Progress.Progress, Progress.HasComeTo, Inner.{TakingTime.TakeTime, Executing.IsInLists}, CoreProgress.IsLawfulAt}
 use Rattle.cl_sched.proofs.LawfulTables.{places, take_time}
 
 module _ (model : SystemModel) (table : JobTable) (i : ℕ) (lawful : IsLawfulAt (system_of model) (timing_at (system_of model) i).core table)

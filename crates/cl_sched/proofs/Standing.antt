@@ -5,16 +5,9 @@ use Rattle.std.proofs.Math.Numerals.{add-one}
 use Rattle.std.proofs.lemmas.Bool.{cases_lt, cases_eq}
 use Rattle.std.proofs.lemmas.List.{take_all, get_or_default}
 use Rattle.std.proofs.lemmas.List.Sums.{sum_by_more}
-use Rattle.cl_runs.specs.TaskTiming.{Timing, range_at}
-use Rattle.cl_runs.specs.declared.job.Job.{Job}
-use Rattle.cl_runs.specs.Table.{no_job, job_at}
-use Rattle.cl_runs.specs.Work.{work_before, work_through}
-use Rattle.cl_runs.specs.Held.{IsHeldIn, IsHeld}
-use Rattle.cl_runs.specs.Legal.{released}
+use Rattle.cl_runs.specs.{TaskTiming.{Timing, range_at}, declared.job.Job.Job, Table.{no_job, job_at}, Work.{work_before, work_through}, Held.{IsHeldIn, IsHeld}, Legal.released}
 use Rattle.cl_runs.proofs.Work.{total_time, work_rises, places_rise, through_place, through_job, before_job, before_past, released_total, released_first, released_before}
-use Rattle.cl_sched.specs.declared.progress.Progress.{Progress}
-use Rattle.cl_sched.specs.Progress.{IsAtRunnable, IsPastJobs, HasComeTo, IsHolding}
-use Rattle.cl_sched.specs.Inner.TakingTime.{TakeTime}
+use Rattle.cl_sched.specs.{declared.progress.Progress.Progress, Progress.{IsAtRunnable, IsPastJobs, HasComeTo, IsHolding}, Inner.TakingTime.TakeTime}
 
 -- ---- the work before a job
 

@@ -2,18 +2,10 @@
 use Rattle.std.proofs.Common.{◌≡◌, ℕ, ◌+◌, ◌-◌, ◌^◌, ◌<◌, ◌≤◌, inl, inr, Option, Some, None, cond, List, ◌++◌, replicate, length, refl, sym, ap, ◌∙◌, subst, arith}
 use Rattle.std.specs.Option.{option_map}
 use Rattle.std.proofs.lemmas.Bool.{cases_lt, cases_eq, eq-eqb, ne_eqb}
-use Rattle.cl_runs.specs.TaskTiming.{System, timing_at, IsSound}
-use Rattle.cl_runs.specs.declared.job.JobTable.{JobTable}
-use Rattle.cl_runs.specs.Table.{table_jobs}
-use Rattle.cl_runs.specs.Legal.{released, IsTaskHeld, IsFirstHeld, IsNoneHeld, IsNonePending, IsScheduled}
-use Rattle.cl_runs.proofs.Executed.{count_appended}
-use Rattle.cl_runs.proofs.HeldTasks.{held_or_not, held_moved}
-use Rattle.cl_sched.specs.declared.progress.Progress.{Progress}
-use Rattle.cl_sched.specs.declared.core_progress.CoreProgress.{CoreProgress}
-use Rattle.cl_sched.specs.declared.core_progress.Next.{Next}
-use Rattle.cl_sched.specs.CoreProgress.{IsLawfulAt, ticks_of, progress_at, Holds, IsBestOf, AreSteadyOf, AreSteadyAbove, IsChoice, IsReached, IsNext}
-use Rattle.cl_sched.proofs.LawfulTables.{places, in_order}
-use Rattle.cl_sched.proofs.Standing.{later, pending, holding_held, not_yet_pending, is_held, some_job_released, some_job_holds}
+use Rattle.cl_runs.specs.{TaskTiming.{System, timing_at, IsSound}, declared.job.JobTable.JobTable, Table.table_jobs, Legal.{released, IsTaskHeld, IsFirstHeld, IsNoneHeld, IsNonePending, IsScheduled}}
+use Rattle.cl_runs.proofs.{Executed.count_appended, HeldTasks.{held_or_not, held_moved}}
+use Rattle.cl_sched.specs.{declared.{progress.Progress.Progress, core_progress.{CoreProgress.CoreProgress, Next.Next}}, CoreProgress.{IsLawfulAt, ticks_of, progress_at, Holds, IsBestOf, AreSteadyOf, AreSteadyAbove, IsChoice, IsReached, IsNext}}
+use Rattle.cl_sched.proofs.{LawfulTables.{places, in_order}, Standing.{later, pending, holding_held, not_yet_pending, is_held, some_job_released, some_job_holds}}
 
 -- ---- the ticks of a task, after further entries
 

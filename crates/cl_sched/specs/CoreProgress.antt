@@ -1,16 +1,8 @@
 -- How far the tasks of a core have come, and what the core does next. Times are in ticks.
 use Rattle.std.specs.Prelude.{◌≡◌, ℕ, Option, Some, None, ◌+◌, ◌^◌, ◌<◌, ◌≤◌, List, ◌++◌, length, slice_index_or, count_by, replicate}
 use Rattle.std.specs.Option.{option_map}
-use Rattle.cl_runs.specs.TaskTiming.{System, timing_at, IsSound}
-use Rattle.cl_runs.specs.declared.job.JobTable.{JobTable}
-use Rattle.cl_runs.specs.Table.{table_jobs, AreLawfulJobs}
-use Rattle.cl_runs.specs.Run.{is_task}
-use Rattle.cl_runs.specs.Legal.{IsScheduled}
-use Rattle.cl_sched.specs.declared.progress.Progress.{Progress}
-use Rattle.cl_sched.specs.declared.core_progress.CoreProgress.{CoreProgress}
-use Rattle.cl_sched.specs.declared.core_progress.Next.{Next}
-use Rattle.cl_sched.specs.declared.core_progress.Waiting.{Waiting}
-use Rattle.cl_sched.specs.Progress.{HasComeTo, IsHolding}
+use Rattle.cl_runs.specs.{TaskTiming.{System, timing_at, IsSound}, declared.job.JobTable.JobTable, Table.{table_jobs, AreLawfulJobs}, Run.is_task, Legal.IsScheduled}
+use Rattle.cl_sched.specs.{declared.{progress.Progress.Progress, core_progress.{CoreProgress.CoreProgress, Next.Next, Waiting.Waiting}}, Progress.{HasComeTo, IsHolding}}
 
 -- a table is lawful at a core: it has lawful jobs of each task of that
 pub record IsLawfulAt (system : System) (core : ℕ) (table : JobTable) : Type 0 where

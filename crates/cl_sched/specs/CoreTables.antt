@@ -1,8 +1,6 @@
 -- Job tables that some cores alone can run.
 use Rattle.std.specs.Prelude.{◌≡◌, ℕ, ◌<◌, length}
-use Rattle.cl_runs.specs.TaskTiming.{System, timing_at}
-use Rattle.cl_runs.specs.declared.job.JobTable.{JobTable}
-use Rattle.cl_runs.specs.Table.{job_at, table_jobs}
+use Rattle.cl_runs.specs.{TaskTiming.{System, timing_at}, declared.job.JobTable.JobTable, Table.{job_at, table_jobs}}
 
 -- each job of a table has one time per runnable of its task
 pub record HaveTimes (system : System) (table : JobTable) : Type 0 where

@@ -1,9 +1,6 @@
 -- How far a task has come with its jobs. Times are in ticks.
 use Rattle.std.specs.Prelude.{◌≡◌, ℕ, ◌+◌, ◌-◌, ◌^◌, ◌<◌, ◌≤◌, ◌⊎◌, true, List, length, slice_index}
-use Rattle.cl_runs.specs.TaskTiming.{Timing, range_at}
-use Rattle.cl_runs.specs.declared.job.Job.{Job}
-use Rattle.cl_runs.specs.Table.{job_at}
-use Rattle.cl_runs.specs.Work.{work_before, work_through}
+use Rattle.cl_runs.specs.{TaskTiming.{Timing, range_at}, declared.job.Job.Job, Table.job_at, Work.{work_before, work_through}}
 use Rattle.cl_sched.specs.declared.progress.Progress.{Progress}
 
 -- a task with so many executed ticks has come to a runnable of a job: all work before it is done, and some of it is

@@ -1,13 +1,8 @@
 //! How far the tasks of a core have come, and what the core does next. Times are in ticks.
 ghost use Rattle.std.specs.Prelude.{◌≡◌, ℕ, ◌+◌, ◌-◌, ◌^◌, ◌<◌, ◌≤◌, ◌↔◌, ◌++◌, [], List, Option, Some, IsTrue, IfOk, length, map, replicate};
 ghost use Rattle.std.specs.List.Sorted.{IsPermutation};
-ghost use Rattle.cl_runs.specs.TaskTiming.{System, Timing, timing_at, IsSound};
-ghost use Rattle.cl_runs.specs.SystemOf.{range_of, system_of};
-ghost use Rattle.cl_runs.specs.declared.job.JobTable.{JobTable as Table};
-ghost use Rattle.cl_sched.specs.declared.progress.Progress.{Progress};
-ghost use Rattle.cl_sched.specs.Progress.{IsHolding};
-ghost use Rattle.cl_sched.specs.CoreProgress.{IsLawfulAt, AreOfCore, IsReached, IsScheduledUntil, IsUnderwayIn, IsUnderway};
-ghost use Rattle.cl_sched.specs.CoreProgress.{progress_at, AreFalling, AreWaiting, IsBestOf, AreSteadyAbove, IsChoice, IsNext};
+ghost use Rattle.cl_runs.specs.{TaskTiming.{System, Timing, timing_at, IsSound}, SystemOf.{range_of, system_of}, declared.job.JobTable.JobTable as Table};
+ghost use Rattle.cl_sched.specs.{declared.progress.Progress.Progress, Progress.IsHolding, CoreProgress.{IsLawfulAt, AreOfCore, IsReached, IsScheduledUntil, IsUnderwayIn, IsUnderway, progress_at, AreFalling, AreWaiting, IsBestOf, AreSteadyAbove, IsChoice, IsNext}};
 ghost use Rattle.cl_sched.specs.Inner.Executing.{IsInLists, IsUnbegun, HasJobLeft, HasExecuted};
 
 use crate::progress::Progress;

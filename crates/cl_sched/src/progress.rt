@@ -1,9 +1,7 @@
 //! How far a task has come with its jobs, which it executes in order. Times are in ticks.
 ghost use Rattle.std.specs.Prelude.{◌≡◌, ℕ, ◌+◌, ◌<◌, ◌≤◌, length};
-ghost use Rattle.cl_runs.specs.Table.{job_at};
-ghost use Rattle.cl_runs.specs.Work.{work_before, work_through};
-ghost use Rattle.cl_sched.specs.Progress.{IsAtRunnable, HasComeTo};
-ghost use Rattle.cl_sched.specs.Inner.TakingTime.{TakeTime};
+ghost use Rattle.cl_runs.specs.{Table.job_at, Work.{work_before, work_through}};
+ghost use Rattle.cl_sched.specs.{Progress.{IsAtRunnable, HasComeTo}, Inner.TakingTime.TakeTime};
 
 use cl_runs::Job;
 

@@ -1,15 +1,8 @@
 //! Computing the legal run of a job table. Times are in ticks.
 ghost use Rattle.std.specs.Prelude.{◌≡◌, ◌<◌, ◌≤◌, true, [], length, replicate, IfOk, OnOk};
-ghost use Rattle.cl_runs.specs.TaskTiming.{IsSound};
-ghost use Rattle.cl_runs.specs.SystemOf.{system_of};
-ghost use Rattle.cl_runs.specs.Table.{IsLawful};
-ghost use Rattle.cl_runs.specs.Run.{core_entries};
-ghost use Rattle.cl_runs.specs.Legal.{IsLegal};
+ghost use Rattle.cl_runs.specs.{TaskTiming.IsSound, SystemOf.system_of, Table.IsLawful, Run.core_entries, Legal.IsLegal};
 ghost use Rattle.cl_run_data.specs.Parts.{is_among, IsLawfulOn, HasNoOtherJobs, IsLegalOn};
-ghost use Rattle.cl_sched.specs.Continuing.{HasContinuations};
-ghost use Rattle.cl_sched.specs.CoreTables.{HaveTimes};
-ghost use Rattle.cl_sched.specs.CoreProgress.{IsLawfulAt, IsReached};
-ghost use Rattle.cl_sched.specs.Inner.Filling.{AreScheduled, HasFilled, HasFilledIf};
+ghost use Rattle.cl_sched.specs.{Continuing.HasContinuations, CoreTables.HaveTimes, CoreProgress.{IsLawfulAt, IsReached}, Inner.Filling.{AreScheduled, HasFilled, HasFilledIf}};
 
 use crate::core_progress::CoreProgress;
 use cl_model::ValidModel;

@@ -4,8 +4,7 @@ use Rattle.std.specs.Int.{◌∣◌}
 use Rattle.std.proofs.Math.Nat.{dvd_trans, one-dvd}
 use Rattle.std.proofs.lemmas.List.Elements.{All-head, All-tail, All-cons, All-nil, All-weaker}
 use Rattle.cl_time.specs.Divisors.{IsLcm}
-use Rattle.cl_stim.specs.declared.phase.Phase.{Phase}
-use Rattle.cl_stim.specs.Multiples.{hyperperiod_of}
+use Rattle.cl_stim.specs.{declared.phase.Phase.Phase, Multiples.hyperperiod_of}
 use Rattle.cl_stim.proofs.Multiples.{common_positive, common_is_least}
 
 -- a phase whose period isn't 0

@@ -1,10 +1,8 @@
 -- Which arrivals of a phase are neighbours: two jobs of a period, and the last of one and the first of the next.
 use Rattle.std.proofs.Common.{◌≡◌, ℕ, suc, ◌+◌, ◌-◌, ◌*◌, ◌<◌, ◌≤◌, ℤ, pos, ◌+ℤ◌, ◌-ℤ◌, ◌*ℤ◌, ◌≤ℤ◌, refl, ap, subst, arith, mul-le-mul_right}
 use Rattle.std.proofs.lemmas.Int.{ints}
-use Rattle.cl_stim.specs.declared.phase.Phase.{Phase}
-use Rattle.cl_stim.specs.Phase.{IsPhase, IsArrivalOf, AreConsecutive, last_arrival}
-use Rattle.cl_stim.proofs.TurnFacts.{multiples_ordered, place_by_final, final_fits, period_some}
-use Rattle.cl_stim.proofs.PhaseSteps.{begin, in_order, turn_more, arrival_lies, last_arrives, last_before, last_after}
+use Rattle.cl_stim.specs.{declared.phase.Phase.Phase, Phase.{IsPhase, IsArrivalOf, AreConsecutive, last_arrival}}
+use Rattle.cl_stim.proofs.{TurnFacts.{multiples_ordered, place_by_final, final_fits, period_some}, PhaseSteps.{begin, in_order, turn_more, arrival_lies, last_arrives, last_before, last_after}}
 
 same_both : (a b : ℤ) → a ≤ℤ b → b ≤ℤ a → a ≡ b
 same_both a b h k = omega (arith, ints, h, k)

@@ -1,16 +1,9 @@
 -- The phase of a pattern, where it has one.
 use Rattle.std.proofs.Common.{◌≡◌, ℕ, ◌+◌, ◌-◌, ◌*◌, ◌<◌, Some, None, unwrap_or, List, length, refl, ap, subst, arith}
-use Rattle.cl_model.specs.declared.stimulus.StimulusKind.{StimulusKind}
-use Rattle.cl_model.specs.declared.stimulus.StimulusKind.TheVariants.{Periodic, Sporadic, Burst}
-use Rattle.cl_model.specs.Timing.{greatest_distance}
-use Rattle.cl_runs.specs.Pattern.{IsPattern}
-use Rattle.cl_runs.specs.Arrivals.{FollowPattern}
-use Rattle.cl_runs.specs.declared.job.Job.{Job}
-use Rattle.cl_runs.specs.Table.{job_at}
-use Rattle.cl_runs.proofs.PatternLaws.{pattern_period}
-use Rattle.cl_runs.proofs.BurstLaws.{pattern_bursts}
-use Rattle.cl_stim.specs.declared.phase.Phase.{Phase}
-use Rattle.cl_stim.specs.Phase.{phase_of, IsPhase}
+use Rattle.cl_model.specs.{declared.stimulus.StimulusKind.{StimulusKind, TheVariants.{Periodic, Sporadic, Burst}}, Timing.greatest_distance}
+use Rattle.cl_runs.specs.{Pattern.IsPattern, Arrivals.FollowPattern, declared.job.Job.Job, Table.job_at}
+use Rattle.cl_runs.proofs.{PatternLaws.pattern_period, BurstLaws.pattern_bursts}
+use Rattle.cl_stim.specs.{declared.phase.Phase.Phase, Phase.{phase_of, IsPhase}}
 
 -- what holds of the phase of a pattern, from each kind of pattern that has one
 by_kind : (P : StimulusKind → Phase → Type 0)

@@ -4,8 +4,7 @@ use Rattle.std.specs.Int.{◌∣◌, int_rem_euclid}
 use Rattle.std.proofs.Math.Nat.{div-mul_cancel}
 use Rattle.std.proofs.lemmas.Int.{ints, by_lt_z}
 use Rattle.std.proofs.lemmas.Nat.{div-add-mod', mod_below}
-use Rattle.cl_stim.specs.declared.phase.Phase.{Phase}
-use Rattle.cl_stim.specs.Phase.{IsPhase, IsArrivalOf, since_turn, first_in_turn, last_in_turn, first_arrival, last_arrival}
+use Rattle.cl_stim.specs.{declared.phase.Phase.Phase, Phase.{IsPhase, IsArrivalOf, since_turn, first_in_turn, last_in_turn, first_arrival, last_arrival}}
 use Rattle.cl_stim.proofs.TurnFacts.{IsJobOfTurn, period_some, place_by_final, final_fits, first_not_before, first_by_next, first_least, first_close, first_is, last_is, last_not_after, last_greatest, last_close}
 
 -- which multiple of a number isn't after an integer, and by how much

@@ -4,16 +4,10 @@ use Rattle.std.proofs.lemmas.Int.{ints}
 use Rattle.std.proofs.lemmas.Bool.{cases_lt}
 use Rattle.std.proofs.lemmas.Nat.{div-add-mod', mod_below}
 use Rattle.cl_model.specs.Timing.{greatest_distance}
-use Rattle.cl_runs.specs.TaskTiming.{System, timing_at, IsSound}
-use Rattle.cl_runs.specs.Table.{job_at}
-use Rattle.cl_runs.specs.Run.{Run, jobs_of}
-use Rattle.cl_runs.specs.Legal.{IsLegal}
+use Rattle.cl_runs.specs.{TaskTiming.{System, timing_at, IsSound}, Table.job_at, Run.{Run, jobs_of}, Legal.IsLegal}
 use Rattle.cl_runs.proofs.RunArrivals.{follow_pattern, next_within}
-use Rattle.cl_stim.specs.declared.phase.Phase.{Phase}
-use Rattle.cl_stim.specs.Phase.{phase_of, IsPhase, IsArrivalOf, AreConsecutive}
-use Rattle.cl_stim.proofs.PatternPhases.{phase_is, job_arrives}
-use Rattle.cl_stim.proofs.PhaseSteps.{begin}
-use Rattle.cl_stim.proofs.Neighbours.{next_in_turn, next_of_turn}
+use Rattle.cl_stim.specs.{declared.phase.Phase.Phase, Phase.{phase_of, IsPhase, IsArrivalOf, AreConsecutive}}
+use Rattle.cl_stim.proofs.{PatternPhases.{phase_is, job_arrives}, PhaseSteps.begin, Neighbours.{next_in_turn, next_of_turn}}
 
 -- jobs that arrive at the places of a phase: its neighbours are theirs
 module _ (phase : Phase) (is : IsPhase phase) (arrival : ℕ → ℕ) (end : ℕ)

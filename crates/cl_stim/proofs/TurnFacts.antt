@@ -3,8 +3,7 @@ use Rattle.std.proofs.Common.{◌≡◌, ℕ, suc, ◌+◌, ◌-◌, ◌*◌, �
 use Rattle.std.specs.Int.{div_ceil}
 use Rattle.std.proofs.lemmas.Bool.{cases_lt, cond_both, leb-true, leb-false}
 use Rattle.std.proofs.lemmas.Nat.{div-add-mod', mod_below}
-use Rattle.cl_stim.specs.declared.phase.Phase.{Phase}
-use Rattle.cl_stim.specs.Phase.{IsPhase, first_in_turn, last_in_turn}
+use Rattle.cl_stim.specs.{declared.phase.Phase.Phase, Phase.{IsPhase, first_in_turn, last_in_turn}}
 
 -- multiples of a distance that lie less than one apart are in order
 pub multiples_ordered : (distance : ℕ) (m n : ℕ) → m * distance < n * distance + distance → m ≤ n

@@ -1,8 +1,6 @@
 -- The stimuli of the tasks of a valid model.
 use Rattle.std.proofs.Common.{ℕ, ◌<◌, length}
-use Rattle.cl_model.specs.declared.model.SystemModel.{SystemModel}
-use Rattle.cl_model.specs.ByNumber.{stimulus_of}
-use Rattle.cl_model.specs.Validity.{IsValid}
+use Rattle.cl_model.specs.{declared.model.SystemModel.SystemModel, ByNumber.stimulus_of, Validity.IsValid}
 use Rattle.cl_model.proofs.ValidTasks.{kind_in_range, kind_ordered}
 use Rattle.cl_stim.specs.Stimulus.{IsStimulus}
 

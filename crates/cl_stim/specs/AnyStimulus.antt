@@ -1,8 +1,7 @@
 -- A stimulus of any kind, and the kind that it is.
 use Rattle.cl_model.specs.declared.stimulus.StimulusKind.{StimulusKind}
 use Rattle.cl_model.specs.declared.stimulus.StimulusKind.TheVariants as kinds
-use Rattle.cl_stim.specs.declared.any_stimulus.AnyStimulus.{AnyStimulus}
-use Rattle.cl_stim.specs.declared.any_stimulus.AnyStimulus.TheVariants.{Periodic, Sporadic, Burst}
+use Rattle.cl_stim.specs.declared.any_stimulus.AnyStimulus.{AnyStimulus, TheVariants.{Periodic, Sporadic, Burst}}
 
 -- the kind of a stimulus
 abbrev pub kind_of : AnyStimulus → StimulusKind

@@ -1,7 +1,6 @@
 -- What an arrival pattern promises of a list of jobs.
 use Rattle.std.specs.Prelude.{◌≡◌, ℕ, suc, ◌+◌, ◌<◌, ◌≤◌, List, length}
-use Rattle.cl_runs.specs.declared.job.Job.{Job}
-use Rattle.cl_runs.specs.Table.{job_at}
+use Rattle.cl_runs.specs.{declared.job.Job.Job, Table.job_at}
 use Rattle.cl_stim.specs.Releases.{releases_in}
 
 -- at most `most` jobs are released in any `width` consecutive ticks

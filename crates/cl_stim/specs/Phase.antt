@@ -2,11 +2,8 @@
 -- are in ticks, and may lie before 0.
 use Rattle.std.specs.Prelude.{◌≡◌, ℕ, ℤ, pos, ◌+ℤ◌, ◌-ℤ◌, ◌*ℤ◌, ◌-◌, ◌*◌, ◌/◌, ◌<◌, ◌≤◌, ◌==◌, min, nat_le, Bool, unsigned_abs, if◌then◌else◌, Option, Some, None}
 use Rattle.std.specs.Int.{div_ceil, int_rem_euclid}
-use Rattle.cl_model.specs.declared.limits.TheConstants.{MOST_TICKS, MOST_JOBS_OF_BURST}
-use Rattle.cl_model.specs.declared.stimulus.StimulusKind.{StimulusKind}
-use Rattle.cl_model.specs.declared.stimulus.StimulusKind.TheVariants.{Periodic, Sporadic, Burst}
-use Rattle.cl_stim.specs.declared.phase.Phase.{Phase}
-use Rattle.cl_stim.specs.Integers.{IsIntegerWithin}
+use Rattle.cl_model.specs.declared.{limits.TheConstants.{MOST_TICKS, MOST_JOBS_OF_BURST}, stimulus.StimulusKind.{StimulusKind, TheVariants.{Periodic, Sporadic, Burst}}}
+use Rattle.cl_stim.specs.{declared.phase.Phase.Phase, Integers.IsIntegerWithin}
 
 -- the phase of a stimulus whose arrivals are fixed
 abbrev pub phase_of : StimulusKind → Option Phase

@@ -1,8 +1,7 @@
 -- How many releases a window of ticks can hold.
 use Rattle.std.specs.Prelude.{ℕ, ◌+◌, ◌*◌, ◌/◌, ◌%◌, ◌&&◌, min, nat_le, nat_lt, List, count_by}
 use Rattle.std.specs.Int.{div_ceil}
-use Rattle.cl_model.specs.declared.stimulus.StimulusKind.{StimulusKind}
-use Rattle.cl_model.specs.declared.stimulus.StimulusKind.TheVariants.{Periodic, Sporadic, Burst}
+use Rattle.cl_model.specs.declared.stimulus.StimulusKind.{StimulusKind, TheVariants.{Periodic, Sporadic, Burst}}
 use Rattle.cl_runs.specs.declared.job.Job.{Job}
 
 -- the number of jobs that are released in the `width` ticks from `start` on

@@ -2,8 +2,7 @@
 ghost use Rattle.std.specs.Prelude.{◌≡◌};
 ghost use Rattle.cl_model.specs.Timing as timing;
 ghost use Rattle.cl_runs.specs.Arrivals.{FollowPattern};
-ghost use Rattle.cl_stim.specs.Releases.{most_releases};
-ghost use Rattle.cl_stim.specs.Stimulus.{IsStimulus};
+ghost use Rattle.cl_stim.specs.{Releases.most_releases, Stimulus.IsStimulus};
 ghost use Rattle.cl_stim.specs.Inner.Laws as laws;
 
 use crate::arrivals::Arrivals;

@@ -1,15 +1,9 @@
 //! Stimuli are well-formed patterns with few releases in each window, and the tasks of valid models
 //! have such stimuli.
 ghost use Rattle.std.specs.Prelude.{ℕ, ◌<◌, ◌≤◌, List, length};
-ghost use Rattle.cl_model.specs.declared.model.SystemModel.{SystemModel};
-ghost use Rattle.cl_model.specs.declared.stimulus.StimulusKind.{StimulusKind};
-ghost use Rattle.cl_model.specs.ByNumber.{stimulus_of};
-ghost use Rattle.cl_model.specs.Validity.{IsValid};
-ghost use Rattle.cl_runs.specs.declared.job.Job.{Job};
-ghost use Rattle.cl_runs.specs.Pattern.{IsPattern};
-ghost use Rattle.cl_runs.specs.Arrivals.{FollowPattern};
-ghost use Rattle.cl_stim.specs.Releases.{releases_in, most_releases};
-ghost use Rattle.cl_stim.specs.Stimulus.{IsStimulus};
+ghost use Rattle.cl_model.specs.{declared.{model.SystemModel.SystemModel, stimulus.StimulusKind.StimulusKind}, ByNumber.stimulus_of, Validity.IsValid};
+ghost use Rattle.cl_runs.specs.{declared.job.Job.Job, Pattern.IsPattern, Arrivals.FollowPattern};
+ghost use Rattle.cl_stim.specs.{Releases.{releases_in, most_releases}, Stimulus.IsStimulus};
 
 pub mod phases;
 

@@ -1,8 +1,6 @@
 //! Phases: fixed arrivals, and the first and the last of them about a moment. Times are in ticks.
 ghost use Rattle.std.specs.Prelude.{◌≡◌, ◌≤◌, ◌<◌, pos, ◌+ℤ◌, ◌-ℤ◌, ◌≤ℤ◌, IfSome};
-ghost use Rattle.cl_model.specs.declared.limits.TheConstants.{MOST_TICKS};
-ghost use Rattle.cl_model.specs.Ranges.{IsKindInRange};
-ghost use Rattle.cl_model.specs.Timing.{IsKindOrdered};
+ghost use Rattle.cl_model.specs.{declared.limits.TheConstants.MOST_TICKS, Ranges.IsKindInRange, Timing.IsKindOrdered};
 ghost use Rattle.cl_stim.specs.Phase.{IsPhaseInRange, phase_of, arrivals_in, since_turn, first_in_turn, last_in_turn, first_arrival, last_arrival, IsMoment};
 
 use cl_model::StimulusKind;

@@ -1,7 +1,6 @@
 -- What the reading of a list of lines answers, where it isn't the list.
 use Rattle.std.specs.Prelude.{◌≡◌, ℕ, Result, Err, MatchResult}
-use Rattle.cl_text.specs.declared.fault.LinesFault.{LinesFault}
-use Rattle.cl_text.specs.declared.fault.LinesFault.TheVariants.{BadLine, NoMemory}
+use Rattle.cl_text.specs.declared.fault.LinesFault.{LinesFault, TheVariants.{BadLine, NoMemory}}
 
 -- where an answer names a line, this holds of its number
 abbrev pub IfBadLine : {List : Type 0} → (answer : Result List LinesFault) → (IsBad : ℕ → Type 0) → Type 0

@@ -1,8 +1,7 @@
 ghost use Rattle.std.specs.Prelude.{◌≡◌, ◌≢◌, ℕ, ◌^◌, ◌<◌, ◌≤◌, false, List, ◌∷◌, ◌++◌, IfSome, IfNone, decimal};
 ghost use Rattle.std.specs.Option.{SomeIff};
 ghost use Rattle.std.specs.Str.Parse.{IsNumeral, digits_value};
-ghost use Rattle.cl_text.specs.Decimal.{IsDecimal};
-ghost use Rattle.cl_text.specs.Line.{first_word, is_graphic};
+ghost use Rattle.cl_text.specs.{Decimal.IsDecimal, Line.{first_word, is_graphic}};
 
 /// Reads a word as a decimal number of at most `most`: digits without a leading zero, except `0`
 /// itself. Returns `None` exactly where the word isn't such a number.

@@ -1,20 +1,13 @@
 -- When groups read and write by the access of their tasks: the job of an implicit or a timed task reads for all its
 -- runnables at once, and writes by its own response or by its deadline.
 use Rattle.std.proofs.Common.{◌≡◌, ℕ, ◌<◌, Bool, length, refl, ap, ◌∙◌}
-use Rattle.cl_model.specs.declared.group.Group.{Group}
-use Rattle.cl_model.specs.declared.model.SystemModel.{SystemModel}
-use Rattle.cl_model.specs.declared.task.AccessKind.{AccessKind}
-use Rattle.cl_model.specs.declared.task.AccessKind.TheVariants.{Implicit, Timed}
-use Rattle.cl_model.specs.ByNumber.{task_at, deadline_of}
-use Rattle.cl_runs.specs.SystemOf.{system_of}
-use Rattle.cl_runs.specs.TaskTiming.{Timing, System, timing_at}
+use Rattle.cl_model.specs.{declared.{group.Group.Group, model.SystemModel.SystemModel, task.AccessKind.{AccessKind, TheVariants.{Implicit, Timed}}}, ByNumber.{task_at, deadline_of}}
+use Rattle.cl_runs.specs.{SystemOf.system_of, TaskTiming.{Timing, System, timing_at}}
 use Rattle.cl_runs.proofs.ModelSystem.{timing_is}
 use Rattle.cl_stim.specs.Phase.{phase_of}
 use Rattle.cl_comm.specs.Windows.{spot_at}
-use Rattle.cl_lead.specs.Ahead.{least_lead}
-use Rattle.cl_lead.specs.Leads.{before_read, ahead_of, lead_if, lead_with, lead_at}
-use Rattle.cl_tight.specs.TightAnswers.{tight_response}
-use Rattle.cl_tight.specs.TightTimings.{part_response, write_by, latest_write}
+use Rattle.cl_lead.specs.{Ahead.least_lead, Leads.{before_read, ahead_of, lead_if, lead_with, lead_at}}
+use Rattle.cl_tight.specs.{TightAnswers.tight_response, TightTimings.{part_response, write_by, latest_write}}
 
 -- ---- reads
 

@@ -7,20 +7,15 @@ use Rattle.std.proofs.Math.Nat.{dvd_trans, dvd_refl, one-dvd}
 use Rattle.std.proofs.lemmas.Bool.{and_parts}
 use Rattle.std.proofs.lemmas.Bool.Decides.{nat_tests}
 use Rattle.std.proofs.lemmas.List.Elements.{All-head, All-tail, All-cons, All-nil, All-weaker}
-use Rattle.cl_model.specs.declared.model.SystemModel.{SystemModel}
-use Rattle.cl_model.specs.declared.group.Group.{Group}
-use Rattle.cl_model.specs.Groups.{groups_at, IsGroupOf}
-use Rattle.cl_model.specs.Validity.{IsValid}
+use Rattle.cl_model.specs.{declared.{model.SystemModel.SystemModel, group.Group.Group}, Groups.{groups_at, IsGroupOf}, Validity.IsValid}
 use Rattle.cl_model.proofs.GroupFacts.{groups_at_are}
-use Rattle.cl_runs.specs.TaskTiming.{System, IsSound}
-use Rattle.cl_runs.specs.SystemOf.{system_of}
+use Rattle.cl_runs.specs.{TaskTiming.{System, IsSound}, SystemOf.system_of}
 use Rattle.cl_runs.proofs.ModelSystem.{system_sound}
 use Rattle.cl_stim.specs.Multiples.{common_multiple}
 use Rattle.cl_stim.proofs.Multiples.{common_positive, common_is_least}
 use Rattle.cl_bound.specs.SettledChains.{IsGroupOfTask}
 use Rattle.cl_bound.proofs.ModelGroups.{group_of_system}
-use Rattle.cl_exact.specs.TimedPeriodic.{is_timed_periodic_chain}
-use Rattle.cl_exact.specs.Hyperperiod.{period_of, hyper_limit, IsMultipleOfPeriods, IsHyperperiod, IsWithinLimit}
+use Rattle.cl_exact.specs.{TimedPeriodic.is_timed_periodic_chain, Hyperperiod.{period_of, hyper_limit, IsMultipleOfPeriods, IsHyperperiod, IsWithinLimit}}
 use Rattle.cl_exact.proofs.ExactOnce.{hyperperiod_once}
 use Rattle.cl_tight.specs.TightFindings.{common_period, has_exact_bounds}
 

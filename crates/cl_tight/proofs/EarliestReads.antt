@@ -1,11 +1,9 @@
 -- The earliest read of a group whose task has a response: it is no earlier than that of the window by the response, and
 -- no later than the deadline.
 use Rattle.std.proofs.Common.{◌≡◌, ℕ, ◌<◌, ◌≤◌, length, refl, arith}
-use Rattle.cl_model.specs.declared.task.AccessKind.{AccessKind}
-use Rattle.cl_model.specs.declared.task.AccessKind.TheVariants.{Explicit, Implicit, Timed}
+use Rattle.cl_model.specs.declared.task.AccessKind.{AccessKind, TheVariants.{Explicit, Implicit, Timed}}
 use Rattle.cl_runs.specs.TaskTiming.{Timing, System, timing_at, IsSound}
-use Rattle.cl_comm.specs.declared.spot.Spot.{Spot}
-use Rattle.cl_comm.specs.Windows.{spot_at, window_of, window_at}
+use Rattle.cl_comm.specs.{declared.spot.Spot.Spot, Windows.{spot_at, window_of, window_at}}
 use Rattle.cl_lead.specs.Leads.{before_read, lead_at}
 use Rattle.cl_lead.proofs.LeadTimes.{lead_holds, lead_by_deadline}
 use Rattle.cl_resp.specs.Question.{greatest_execution}

@@ -1,17 +1,8 @@
 -- A complete forward chain whose first job reads at its arrival takes an event on: its delay is its reaction less the period
 -- of its first task.
 use Rattle.std.proofs.Common.{◌≡◌, ℕ, suc, ◌+◌, ◌-◌, ◌<◌, List, length, refl, ap, subst, arith}
-use Rattle.cl_model.specs.declared.group.Group.{Group}
-use Rattle.cl_model.specs.declared.task.AccessKind.{AccessKind}
-use Rattle.cl_model.specs.Timing.{greatest_distance}
-use Rattle.cl_runs.specs.TaskTiming.{System, IsSound}
-use Rattle.cl_runs.specs.Table.{job_at}
-use Rattle.cl_runs.specs.Run.{Run, jobs_of}
-use Rattle.cl_runs.specs.Legal.{IsLegal}
-use Rattle.cl_runs.specs.Moments.{ReadsBy, Reads, Writes}
-use Rattle.cl_runs.specs.Chains.{JobChain, chain_length, IsForwardChain, first_group, first_job}
-use Rattle.cl_runs.specs.RunChains.{run_moments}
-use Rattle.cl_runs.specs.Delays.{IsDelayChain}
+use Rattle.cl_model.specs.{declared.{group.Group.Group, task.AccessKind.AccessKind}, Timing.greatest_distance}
+use Rattle.cl_runs.specs.{TaskTiming.{System, IsSound}, Table.job_at, Run.{Run, jobs_of}, Legal.IsLegal, Moments.{ReadsBy, Reads, Writes}, Chains.{JobChain, chain_length, IsForwardChain, first_group, first_job}, RunChains.run_moments, Delays.IsDelayChain}
 use Rattle.cl_runs.proofs.RunArrivals.{arrivals_apart, next_within}
 use Rattle.cl_exact.proofs.RunMoments.{IsIdealTask, task_period}
 

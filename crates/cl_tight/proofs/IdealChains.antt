@@ -6,15 +6,10 @@ use Rattle.std.proofs.Math.Nat.{mul-le-mul_right}
 use Rattle.std.proofs.lemmas.Bool.{cases_lt}
 use Rattle.std.proofs.lemmas.Grind.{div_ceil_times}
 use Rattle.std.proofs.lemmas.List.FromFn.{get_or-map-range_with_len, length-map-range_with_len}
-use Rattle.cl_model.specs.declared.group.Group.{Group}
-use Rattle.cl_model.specs.Groups.{group_at}
-use Rattle.cl_runs.specs.TaskTiming.{System}
-use Rattle.cl_runs.specs.Chains.{JobChain, last_group, IsEarliestReader, IsForwardChain}
-use Rattle.cl_runs.specs.RunChains.{ideal_moments}
-use Rattle.cl_exact.specs.Hyperperiod.{period_of}
-use Rattle.cl_exact.specs.SteadyJobs.{first_arrival_from}
-use Rattle.cl_tight.proofs.IdealSteps.{offset_of, read_in, write_in}
-use Rattle.cl_tight.proofs.IdealWalks.{IsPeriodicGroup, reads_at, reads_is, writes_at}
+use Rattle.cl_model.specs.{declared.group.Group.Group, Groups.group_at}
+use Rattle.cl_runs.specs.{TaskTiming.System, Chains.{JobChain, last_group, IsEarliestReader, IsForwardChain}, RunChains.ideal_moments}
+use Rattle.cl_exact.specs.{Hyperperiod.period_of, SteadyJobs.first_arrival_from}
+use Rattle.cl_tight.proofs.{IdealSteps.{offset_of, read_in, write_in}, IdealWalks.{IsPeriodicGroup, reads_at, reads_is, writes_at}}
 
 -- the first job that reads at or after a moment
 module _ (system : System) (group : Group) (positive : 1 ≤ period_of system group) (moment : ℕ) where

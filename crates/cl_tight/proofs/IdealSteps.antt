@@ -5,15 +5,11 @@ use Rattle.std.specs.Prelude.{ℤ, pos, negsuc, ◌+ℤ◌, ◌-ℤ◌, ◌*ℤ�
 use Rattle.std.proofs.Math.Nat.{mul-le-mul_right}
 use Rattle.std.proofs.lemmas.Bool.{cases_lt}
 use Rattle.std.proofs.lemmas.Int.{ints}
-use Rattle.cl_model.specs.declared.group.Group.{Group}
-use Rattle.cl_model.specs.Timing.{least_distance}
-use Rattle.cl_runs.specs.Pattern.{first_least}
-use Rattle.cl_runs.specs.TaskTiming.{System, timing_at}
-use Rattle.cl_stim.specs.declared.phase.Phase.{Phase}
-use Rattle.cl_stim.specs.Phase.{IsArrivalOf}
+use Rattle.cl_model.specs.{declared.group.Group.Group, Timing.least_distance}
+use Rattle.cl_runs.specs.{Pattern.first_least, TaskTiming.{System, timing_at}}
+use Rattle.cl_stim.specs.{declared.phase.Phase.Phase, Phase.IsArrivalOf}
 use Rattle.cl_exact.specs.Hyperperiod.{period_of}
-use Rattle.cl_phase.specs.declared.pace.Pace.{Pace}
-use Rattle.cl_phase.specs.Pace.{first_from, last_by}
+use Rattle.cl_phase.specs.{declared.pace.Pace.Pace, Pace.{first_from, last_by}}
 use Rattle.cl_phase.proofs.PhaseAnswers.{LeadsTo}
 
 -- when job 0 of a periodic group reads, and each after it

@@ -9,27 +9,15 @@ use Rattle.std.proofs.lemmas.Int.{ints}
 use Rattle.std.proofs.lemmas.List.Elements.{All-head, All-tail, All-cons, All-nil}
 use Rattle.std.proofs.lemmas.List.Folds.{list_any-from_Any}
 use Rattle.std.proofs.lemmas.Nat.Gcd.{le_of_dvd}
-use Rattle.cl_model.specs.declared.group.Group.{Group}
-use Rattle.cl_model.specs.Groups.{group_at}
-use Rattle.cl_model.specs.Kinds.{is_timed}
-use Rattle.cl_model.specs.Timing.{greatest_distance}
+use Rattle.cl_model.specs.{declared.group.Group.Group, Groups.group_at, Kinds.is_timed, Timing.greatest_distance}
 use Rattle.cl_runs.specs.TaskTiming.{System, timing_at}
-use Rattle.cl_stim.specs.declared.phase.Phase.{Phase}
-use Rattle.cl_stim.specs.Phase.{arrivals_in, phase_of}
-use Rattle.cl_stim.specs.Multiples.{hyperperiod_of}
+use Rattle.cl_stim.specs.{declared.phase.Phase.Phase, Phase.{arrivals_in, phase_of}, Multiples.hyperperiod_of}
 use Rattle.cl_exact.specs.Hyperperiod.{period_of}
-use Rattle.cl_bound.specs.Hops.{saves, lag}
-use Rattle.cl_bound.specs.declared.group_timing.GroupTiming.{GroupTiming}
-use Rattle.cl_phase.specs.declared.pace.TheConstants.{MOST_ARRIVALS}
-use Rattle.cl_phase.specs.declared.pace.Pace.TheVariants.{Kept}
-use Rattle.cl_phase.specs.declared.stop.Stop.{Stop}
-use Rattle.cl_phase.specs.Kept.{come_round_soon, phase_beside, kept_with, pace_with}
-use Rattle.cl_phase.specs.Walks.{pace_at}
-use Rattle.cl_phase.specs.TightBounds.{lag_to_next, stops_beside, stops_of}
+use Rattle.cl_bound.specs.{Hops.{saves, lag}, declared.group_timing.GroupTiming.GroupTiming}
+use Rattle.cl_phase.specs.{declared.{pace.{TheConstants.MOST_ARRIVALS, Pace.TheVariants.Kept}, stop.Stop.Stop}, Kept.{come_round_soon, phase_beside, kept_with, pace_with}, Walks.pace_at, TightBounds.{lag_to_next, stops_beside, stops_of}}
 use Rattle.cl_stim.proofs.Hyperperiods.{HasPeriod, Divides, hyperperiod_least}
 use Rattle.cl_tight.specs.ExactBounds.{IsTimedTiming}
-use Rattle.cl_tight.proofs.IdealSteps.{ideal_phase, IsIdealLag}
-use Rattle.cl_tight.proofs.IdealWalks.{IsPeriodicGroup}
+use Rattle.cl_tight.proofs.{IdealSteps.{ideal_phase, IsIdealLag}, IdealWalks.IsPeriodicGroup}
 
 -- a timed periodic group whose period divides so many ticks
 pub record IsTurning (system : System) (ticks : ℕ) (group : Group) : Type 0 where

@@ -4,18 +4,10 @@ use Rattle.std.proofs.Common.{◌≡◌, ℕ, zero, suc, ◌+◌, ◌-◌, ◌<�
 use Rattle.std.specs.Prelude.{ℤ, pos, ◌+ℤ◌, slice_index}
 use Rattle.std.proofs.lemmas.Bool.{cases_lt}
 use Rattle.std.proofs.lemmas.Int.{ints}
-use Rattle.cl_model.specs.declared.group.Group.{Group}
-use Rattle.cl_model.specs.declared.stimulus.StimulusKind.TheVariants.{Periodic}
-use Rattle.cl_model.specs.Groups.{group_at}
-use Rattle.cl_runs.specs.TaskTiming.{System, timing_at}
-use Rattle.cl_runs.specs.Chains.{JobChain, chain_length, last_group, first_job, last_job, IsForwardChain}
-use Rattle.cl_runs.specs.RunChains.{ArrivesAt, ideal_moments}
+use Rattle.cl_model.specs.{declared.{group.Group.Group, stimulus.StimulusKind.TheVariants.Periodic}, Groups.group_at}
+use Rattle.cl_runs.specs.{TaskTiming.{System, timing_at}, Chains.{JobChain, chain_length, last_group, first_job, last_job, IsForwardChain}, RunChains.{ArrivesAt, ideal_moments}}
 use Rattle.cl_exact.specs.Hyperperiod.{period_of}
-use Rattle.cl_phase.specs.declared.pace.Pace.TheVariants.{Kept}
-use Rattle.cl_phase.specs.declared.stop.Stop.{Stop}
-use Rattle.cl_phase.specs.Pace.{first_from}
-use Rattle.cl_phase.specs.Walks.{pace_at, lag_at, onward, back, arrival_at_last, arrival_at_first}
-use Rattle.cl_phase.specs.TightBounds.{length_from}
+use Rattle.cl_phase.specs.{declared.{pace.Pace.TheVariants.Kept, stop.Stop.Stop}, Pace.first_from, Walks.{pace_at, lag_at, onward, back, arrival_at_last, arrival_at_first}, TightBounds.length_from}
 use Rattle.cl_phase.proofs.PhaseAnswers.{LeadsTo}
 use Rattle.cl_tight.proofs.IdealSteps.{offset_of, read_in, write_in, ideal_phase, ReadsAt, IsIdealLag, next_read, last_is_read, hop_is_read}
 

@@ -4,24 +4,14 @@ use Rattle.std.proofs.Common.{◌≡◌, ℕ, suc, ◌+◌, ◌<◌, ◌≤◌, 
 use Rattle.std.specs.Prelude.{sum_by, unwrap_or, All}
 use Rattle.std.proofs.lemmas.List.Elements.{All-head, All-tail, All-drop}
 use Rattle.std.proofs.lemmas.List.Sums.{sum_by-cons}
-use Rattle.cl_model.specs.declared.group.Group.{Group}
-use Rattle.cl_model.specs.declared.task.AccessKind.{AccessKind}
-use Rattle.cl_model.specs.declared.task.AccessKind.TheVariants.{Explicit, Implicit, Timed}
-use Rattle.cl_runs.specs.TaskTiming.{TimeRange, Timing, System, timing_at, IsSound}
-use Rattle.cl_runs.specs.Table.{job_at}
-use Rattle.cl_runs.specs.Run.{Run, jobs_of}
-use Rattle.cl_runs.specs.Legal.{IsLegal}
-use Rattle.cl_runs.specs.Moments.{WritesBy, Writes}
-use Rattle.cl_comm.specs.declared.spot.Spot.{Spot}
-use Rattle.cl_comm.specs.Windows.{least_times, spot_at, window_of, window_at}
-use Rattle.cl_resp.specs.ByPhase.{response_through, IsSettledByPhase}
-use Rattle.cl_resp.proofs.LeastParts.{settled_timely, settled_through}
-use Rattle.cl_bound.specs.Hops.{group_timing}
-use Rattle.cl_bound.specs.SettledChains.{IsGroupOfTask}
+use Rattle.cl_model.specs.declared.{group.Group.Group, task.AccessKind.{AccessKind, TheVariants.{Explicit, Implicit, Timed}}}
+use Rattle.cl_runs.specs.{TaskTiming.{TimeRange, Timing, System, timing_at, IsSound}, Table.job_at, Run.{Run, jobs_of}, Legal.IsLegal, Moments.{WritesBy, Writes}}
+use Rattle.cl_comm.specs.{declared.spot.Spot.Spot, Windows.{least_times, spot_at, window_of, window_at}}
+use Rattle.cl_resp.specs.{ByPhase.{response_through, IsSettledByPhase}, Clear.greatest_behind}
+use Rattle.cl_resp.proofs.{LeastParts.{settled_timely, settled_through}, LeastBehind.part_leaves_room}
+use Rattle.cl_bound.specs.{Hops.group_timing, SettledChains.IsGroupOfTask}
 use Rattle.cl_bound.proofs.KeptWindows.{timely_keeps}
 use Rattle.cl_tight.specs.TightTimings.{part_response, write_by}
-use Rattle.cl_resp.specs.Clear.{greatest_behind}
-use Rattle.cl_resp.proofs.LeastBehind.{part_leaves_room}
 
 -- ---- it is within the window
 

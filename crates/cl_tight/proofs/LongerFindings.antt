@@ -3,37 +3,17 @@ use Rattle.std.proofs.Common.{◌≡◌, ℕ, ◌<◌, ◌≤◌, inl, inr, Bool
 use Rattle.std.specs.Prelude.{All}
 use Rattle.std.proofs.lemmas.Bool.{false≢true, cases_lt, leb-true, le-leb}
 use Rattle.std.proofs.lemmas.List.{length-map, get_or-map, get_or_past}
-use Rattle.cl_model.specs.declared.chain.ChainDef.{ChainDef}
-use Rattle.cl_model.specs.declared.chain.LengthKind.TheVariants.{Reaction, Age, Reduced}
-use Rattle.cl_model.specs.declared.chain.RequirementDef.{RequirementDef}
-use Rattle.cl_model.specs.declared.chain.RequirementKind.{RequirementKind}
-use Rattle.cl_model.specs.declared.chain.RequirementKind.TheVariants.{Length, Delay}
-use Rattle.cl_model.specs.declared.group.Group.{Group}
-use Rattle.cl_model.specs.declared.model.SystemModel.{SystemModel}
-use Rattle.cl_model.specs.Groups.{groups_at}
-use Rattle.cl_model.specs.Named.{index_of}
-use Rattle.cl_model.specs.Validity.{IsValid}
-use Rattle.cl_runs.specs.Requirements.{no_requirement, requirement_at, required_chain}
-use Rattle.cl_runs.specs.SystemOf.{system_of}
-use Rattle.cl_runs.specs.TaskTiming.{System, IsSound}
+use Rattle.cl_model.specs.{declared.{chain.{ChainDef.ChainDef, LengthKind.TheVariants.{Reaction, Age, Reduced}, RequirementDef.RequirementDef, RequirementKind.{RequirementKind, TheVariants.{Length, Delay}}}, group.Group.Group, model.SystemModel.SystemModel}, Groups.groups_at}
+use Rattle.cl_model.specs.{Named.index_of, Validity.IsValid}
+use Rattle.cl_runs.specs.{Requirements.{no_requirement, requirement_at, required_chain}, SystemOf.system_of, TaskTiming.{System, IsSound}}
 use Rattle.cl_runs.proofs.ModelSystem.{system_sound}
 use Rattle.cl_resp.specs.LesserTimes.{TakesNoMore}
-use Rattle.cl_bound.specs.Answers.{answer_at, is_late, NoneIsLate}
-use Rattle.cl_bound.specs.Bounds.{Lengths}
-use Rattle.cl_bound.specs.NoGreater.{AreNoGreater}
-use Rattle.cl_analyse.specs.declared.findings.ChainAnswer.TheVariants.{Bounds}
-use Rattle.cl_analyse.specs.declared.findings.Verdict.TheVariants.{Met, Broken, Unshown}
-use Rattle.cl_analyse.specs.ChainAnswers.{chain_answer_at}
-use Rattle.cl_analyse.specs.Verdicts.{limited_bound, required_bound, verdict_on, verdict_at, is_met}
+use Rattle.cl_bound.specs.{Answers.{answer_at, is_late, NoneIsLate}, Bounds.Lengths, NoGreater.AreNoGreater}
+use Rattle.cl_analyse.specs.{declared.findings.{ChainAnswer.TheVariants.Bounds, Verdict.TheVariants.{Met, Broken, Unshown}}, ChainAnswers.chain_answer_at, Verdicts.{limited_bound, required_bound, verdict_on, verdict_at, is_met}}
 use Rattle.cl_analyse.proofs.KeptRequirements.{bound_valued}
 use Rattle.cl_phase.specs.TightBounds.{tight_bounds}
-use Rattle.cl_tight.specs.LongerTimes.{IsNoLonger, DifferInGreatestTimes}
-use Rattle.cl_tight.specs.TightAnswers.{tight_answers_of}
-use Rattle.cl_tight.specs.TightFindings.{tight_chain_answers_of, has_exact_bounds, exact_bound, tight_verdict_of, tight_findings_of}
-use Rattle.cl_tight.specs.TightTimings.{tight_timing}
-use Rattle.cl_tight.proofs.LongerTimes.{task_timely, timely_too, longer_no_less}
-use Rattle.cl_tight.proofs.TightChains.{of_tasks, own_bounds, tight_given, tight_where}
-use Rattle.cl_tight.proofs.TightRequirements.{bounded_chain}
+use Rattle.cl_tight.specs.{LongerTimes.{IsNoLonger, DifferInGreatestTimes}, TightAnswers.tight_answers_of, TightFindings.{tight_chain_answers_of, has_exact_bounds, exact_bound, tight_verdict_of, tight_findings_of}, TightTimings.tight_timing}
+use Rattle.cl_tight.proofs.{LongerTimes.{task_timely, timely_too, longer_no_less}, TightChains.{of_tasks, own_bounds, tight_given, tight_where}, TightRequirements.bounded_chain}
 
 -- ---- when a requirement is met
 

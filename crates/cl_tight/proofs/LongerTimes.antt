@@ -6,28 +6,16 @@ use Rattle.std.proofs.Math.ListN.{length-map}
 use Rattle.std.proofs.lemmas.Bool.{true≢false, cases_lt}
 use Rattle.std.proofs.lemmas.List.{get_or_past}
 use Rattle.std.proofs.lemmas.List.FromFn.{length-map-range_with_len}
-use Rattle.cl_model.specs.declared.group.Group.{Group}
-use Rattle.cl_model.specs.declared.task.AccessKind.{AccessKind}
-use Rattle.cl_model.specs.declared.task.AccessKind.TheVariants.{Explicit, Implicit, Timed}
-use Rattle.cl_model.specs.Kinds.{is_timed}
-use Rattle.cl_model.specs.Timing.{greatest_distance, greatest_jitter}
+use Rattle.cl_model.specs.{declared.{group.Group.Group, task.AccessKind.{AccessKind, TheVariants.{Explicit, Implicit, Timed}}}, Kinds.is_timed, Timing.{greatest_distance, greatest_jitter}}
 use Rattle.cl_runs.specs.TaskTiming.{TimeRange, System, timing_at, IsSound}
 use Rattle.cl_lead.specs.LeastTimes.{HaveSameLeastTimes}
 use Rattle.cl_lead.proofs.SameLeads.{same_lead}
-use Rattle.cl_resp.specs.ByPhase.{IsSettledByPhase}
-use Rattle.cl_resp.specs.LesserTimes.{TakesNoMore}
-use Rattle.cl_resp.proofs.AskedLess.{settled_sooner, through_sooner}
-use Rattle.cl_resp.proofs.LeastBehind.{part_leaves_room}
-use Rattle.cl_bound.specs.declared.answer.TaskAnswer.TheVariants.{Late}
-use Rattle.cl_bound.specs.Answers.{answer_with, answer_at, is_late, response_in, NoneIsLate}
-use Rattle.cl_bound.specs.NoGreater.{StaysWithin, AreNoGreater}
-use Rattle.cl_bound.specs.SettledChains.{IsGroupOfTask}
+use Rattle.cl_resp.specs.{ByPhase.IsSettledByPhase, LesserTimes.TakesNoMore}
+use Rattle.cl_resp.proofs.{AskedLess.{settled_sooner, through_sooner}, LeastBehind.part_leaves_room}
+use Rattle.cl_bound.specs.{declared.answer.TaskAnswer.TheVariants.Late, Answers.{answer_with, answer_at, is_late, response_in, NoneIsLate}, NoGreater.{StaysWithin, AreNoGreater}, SettledChains.IsGroupOfTask}
 use Rattle.cl_phase.specs.TightBounds.{tight_bounds}
-use Rattle.cl_phase.proofs.SamePatterns.{same_bounds}
-use Rattle.cl_phase.proofs.WiderWalks.{tight_within_wider}
-use Rattle.cl_tight.specs.LongerTimes.{IsNoLonger}
-use Rattle.cl_tight.specs.TightAnswers.{tight_answer_to, tight_answers_of, tight_response}
-use Rattle.cl_tight.specs.TightTimings.{part_response, write_by, latest_write, tight_timing}
+use Rattle.cl_phase.proofs.{SamePatterns.same_bounds, WiderWalks.tight_within_wider}
+use Rattle.cl_tight.specs.{LongerTimes.IsNoLonger, TightAnswers.{tight_answer_to, tight_answers_of, tight_response}, TightTimings.{part_response, write_by, latest_write, tight_timing}}
 use Rattle.cl_tight.proofs.TightTasks.{phased_answer, tight_task, timely_by_phase}
 
 -- by any kind of access, a job has written no later where it and its runnables up to the last of the group finish no later

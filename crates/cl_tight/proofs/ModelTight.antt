@@ -8,45 +8,18 @@ use Rattle.std.proofs.lemmas.Int.{ints}
 use Rattle.std.proofs.Math.Nat.{dvd-mul_left_of_dvd, dvd-mul_right, mul-pos, pos_of_dvd_of_pos}
 use Rattle.std.proofs.lemmas.List.{get_or_default}
 use Rattle.std.proofs.lemmas.List.Elements.{All-head, All-tail, All-cons, All-nil, All-weaker}
-use Rattle.cl_model.specs.declared.group.Group.{Group}
-use Rattle.cl_model.specs.declared.limits.TheConstants.{MOST_STEPS}
-use Rattle.cl_model.specs.declared.model.SystemModel.{SystemModel}
-use Rattle.cl_model.specs.declared.stimulus.StimulusKind.{StimulusKind}
-use Rattle.cl_model.specs.declared.stimulus.StimulusKind.TheVariants.{Periodic, Sporadic, Burst}
-use Rattle.cl_model.specs.Groups.{IsGroupOf, group_at, groups_at, no_group}
-use Rattle.cl_model.specs.Kinds.{is_timed, is_periodic}
-use Rattle.cl_model.specs.Timing.{least_distance, greatest_jitter}
-use Rattle.cl_model.specs.Validity.{IsValid}
-use Rattle.cl_runs.specs.Pattern.{first_least}
-use Rattle.cl_runs.specs.TaskTiming.{System, IsSound, timing_at}
-use Rattle.cl_runs.specs.SystemOf.{system_of}
-use Rattle.cl_runs.specs.Chains.{last_group}
+use Rattle.cl_model.specs.{declared.{group.Group.Group, limits.TheConstants.MOST_STEPS, model.SystemModel.SystemModel, stimulus.StimulusKind.{StimulusKind, TheVariants.{Periodic, Sporadic, Burst}}}, Groups.{IsGroupOf, group_at, groups_at, no_group}, Kinds.{is_timed, is_periodic}}
+use Rattle.cl_model.specs.{Timing.{least_distance, greatest_jitter}, Validity.IsValid}
+use Rattle.cl_runs.specs.{Pattern.first_least, TaskTiming.{System, IsSound, timing_at}, SystemOf.system_of, Chains.last_group}
 use Rattle.cl_runs.proofs.ModelSystem.{system_sound}
-use Rattle.cl_exact.specs.declared.limit.TheConstants.{MOST_FIRST_JOBS}
-use Rattle.cl_exact.specs.TimedPeriodic.{are_timed_periodic, is_timed_periodic_chain}
-use Rattle.cl_exact.specs.Hyperperiod.{period_of, IsHyperperiod, IsWithinLimit}
-use Rattle.cl_exact.specs.ExactLengths.{Witnesses, AreExactLengths}
-use Rattle.cl_exact.specs.Ties.{AreTied}
-use Rattle.cl_exact.proofs.ModelBeats.{AreTimedGroups, timed_chain, task_passes}
-use Rattle.cl_exact.proofs.ModelExact.{groups_are_tied}
-use Rattle.cl_bound.specs.declared.group_timing.GroupTiming.{GroupTiming}
-use Rattle.cl_bound.specs.SettledChains.{IsGroupOfTask}
-use Rattle.cl_bound.proofs.AlongChains.{last_timing}
-use Rattle.cl_bound.proofs.ModelGroups.{group_of_system}
-use Rattle.cl_phase.specs.declared.pace.TheConstants.{MOST_ARRIVALS}
-use Rattle.cl_phase.specs.declared.pace.Pace.TheVariants.{Kept}
-use Rattle.cl_phase.specs.declared.stop.Stop.{Stop}
-use Rattle.cl_phase.specs.Walks.{pace_at}
-use Rattle.cl_tight.specs.TightTimings.{tight_timing}
-use Rattle.cl_phase.specs.TightBounds.{stops_of, span_of, last_write, tight_bounds}
-use Rattle.cl_tight.specs.ExactBounds.{AreLengthsOf, IsTimedTiming}
-use Rattle.cl_tight.proofs.IdealSteps.{ideal_phase, IsIdealLag}
-use Rattle.cl_tight.proofs.IdealStops.{IsTurning, paces, timed_lag, all_keep_phase}
-use Rattle.cl_tight.proofs.IdealWalks.{AreIdealStops}
-use Rattle.cl_tight.proofs.TimedTimings.{timed_by_phases}
-use Rattle.cl_phase.proofs.KeptWalks.{over_all, phases_agree}
-use Rattle.cl_phase.proofs.StopFacts.{length_stops, stop_lag, stops_step}
-use Rattle.cl_tight.proofs.TightExact.{lengths_are_exact}
+use Rattle.cl_exact.specs.{declared.limit.TheConstants.MOST_FIRST_JOBS, TimedPeriodic.{are_timed_periodic, is_timed_periodic_chain}, Hyperperiod.{period_of, IsHyperperiod, IsWithinLimit}, ExactLengths.{Witnesses, AreExactLengths}, Ties.AreTied}
+use Rattle.cl_exact.proofs.{ModelBeats.{AreTimedGroups, timed_chain, task_passes}, ModelExact.groups_are_tied}
+use Rattle.cl_bound.specs.{declared.group_timing.GroupTiming.GroupTiming, SettledChains.IsGroupOfTask}
+use Rattle.cl_bound.proofs.{AlongChains.last_timing, ModelGroups.group_of_system}
+use Rattle.cl_phase.specs.{declared.{pace.{TheConstants.MOST_ARRIVALS, Pace.TheVariants.Kept}, stop.Stop.Stop}, Walks.pace_at, TightBounds.{stops_of, span_of, last_write, tight_bounds}}
+use Rattle.cl_tight.specs.{TightTimings.tight_timing, ExactBounds.{AreLengthsOf, IsTimedTiming}}
+use Rattle.cl_tight.proofs.{IdealSteps.{ideal_phase, IsIdealLag}, IdealStops.{IsTurning, paces, timed_lag, all_keep_phase}, IdealWalks.AreIdealStops, TimedTimings.timed_by_phases, TightExact.lengths_are_exact}
+use Rattle.cl_phase.proofs.{KeptWalks.{over_all, phases_agree}, StopFacts.{length_stops, stop_lag, stops_step}}
 
 -- a pattern that is periodic has its period, its offset and some jitter
 periodic_parts : (pattern : StimulusKind) → is_periodic pattern ≡ true → pattern ≡ Periodic (least_distance pattern) (first_least pattern) (greatest_jitter pattern)

@@ -1,26 +1,14 @@
 -- The numbers of the timing by phases of a group of a valid model, whose task isn't late, are those of a valid model.
 use Rattle.std.proofs.Common.{◌≡◌, ℕ, ◌≤◌, false, arith}
-use Rattle.cl_model.specs.declared.group.Group.{Group}
-use Rattle.cl_model.specs.declared.limits.TheConstants.{MOST_TICKS}
-use Rattle.cl_model.specs.declared.model.SystemModel.{SystemModel}
-use Rattle.cl_model.specs.Groups.{IsGroupOf}
-use Rattle.cl_model.specs.Validity.{IsValid}
-use Rattle.cl_runs.specs.SystemOf.{system_of}
-use Rattle.cl_runs.specs.TaskTiming.{timing_at}
-use Rattle.cl_runs.proofs.ModelSystem.{system_sound}
-use Rattle.cl_runs.proofs.PatternFacts.{distances_ordered}
+use Rattle.cl_model.specs.{declared.{group.Group.Group, limits.TheConstants.MOST_TICKS, model.SystemModel.SystemModel}, Groups.IsGroupOf, Validity.IsValid}
+use Rattle.cl_runs.specs.{SystemOf.system_of, TaskTiming.timing_at}
+use Rattle.cl_runs.proofs.{ModelSystem.system_sound, PatternFacts.distances_ordered}
 use Rattle.cl_comm.specs.Windows.{spot_at}
 use Rattle.cl_comm.proofs.AccessTimes.{windows_end_by_the_deadline}
-use Rattle.cl_bound.specs.Answers.{is_late, answer_at}
-use Rattle.cl_bound.specs.Hops.{group_timing, IsNear}
-use Rattle.cl_bound.proofs.GroupWindows.{spot_fits, spot_in_time}
-use Rattle.cl_bound.proofs.ModelGroups.{group_of_system, distance_near, window_near}
-use Rattle.cl_tight.specs.TightAnswers.{tight_answers_of, tight_response}
-use Rattle.cl_tight.specs.TightTimings.{earliest_read, latest_write, tight_timing}
-use Rattle.cl_tight.proofs.EarliestReads.{read_by_deadline}
-use Rattle.cl_tight.proofs.LatestWrites.{write_within}
-use Rattle.cl_tight.proofs.TightTasks.{tight_task}
-use Rattle.cl_tight.proofs.TightTimings.{holds_execution, by_deadline}
+use Rattle.cl_bound.specs.{Answers.{is_late, answer_at}, Hops.{group_timing, IsNear}}
+use Rattle.cl_bound.proofs.{GroupWindows.{spot_fits, spot_in_time}, ModelGroups.{group_of_system, distance_near, window_near}}
+use Rattle.cl_tight.specs.{TightAnswers.{tight_answers_of, tight_response}, TightTimings.{earliest_read, latest_write, tight_timing}}
+use Rattle.cl_tight.proofs.{EarliestReads.read_by_deadline, LatestWrites.write_within, TightTasks.tight_task, TightTimings.{holds_execution, by_deadline}}
 
 -- the deadline of a task is
 deadline_near : (model : SystemModel) → IsValid model → (group : Group) → IsGroupOf model group

@@ -1,31 +1,15 @@
 -- The timing by phases of a group whose task isn't late: it always holds, and stays within the timings by the responses of
 -- the task, by phases and by the report.
 use Rattle.std.proofs.Common.{◌≡◌, ℕ, false, refl, ◌∙◌, arith}
-use Rattle.cl_model.specs.declared.group.Group.{Group}
-use Rattle.cl_model.specs.declared.model.SystemModel.{SystemModel}
-use Rattle.cl_model.specs.Groups.{IsGroupOf}
-use Rattle.cl_model.specs.Validity.{IsValid}
-use Rattle.cl_runs.specs.TaskTiming.{System, IsSound}
-use Rattle.cl_runs.specs.SystemOf.{system_of}
+use Rattle.cl_model.specs.{declared.{group.Group.Group, model.SystemModel.SystemModel}, Groups.IsGroupOf, Validity.IsValid}
+use Rattle.cl_runs.specs.{TaskTiming.{System, IsSound}, SystemOf.system_of}
 use Rattle.cl_runs.proofs.ModelSystem.{system_sound}
 use Rattle.cl_lead.proofs.LeadModels.{reads_after_lead_of_model}
 use Rattle.cl_resp.specs.ByPhase.{IsSettledByPhase}
-use Rattle.cl_bound.specs.Answers.{answers_of, answer_at, is_late, response_in}
-use Rattle.cl_bound.specs.Bounds.{settled_timing}
-use Rattle.cl_bound.specs.Hops.{group_timing}
-use Rattle.cl_bound.specs.declared.group_timing.GroupTiming.{GroupTiming}
-use Rattle.cl_bound.specs.NoGreater.{StaysWithin}
-use Rattle.cl_bound.specs.SettledChains.{IsGroupOfTask}
-use Rattle.cl_bound.specs.Timings.{IsTimingOf, AlwaysKeeps}
-use Rattle.cl_bound.proofs.ModelGroups.{group_of_system}
-use Rattle.cl_bound.proofs.NoGreater.{stays_within}
-use Rattle.cl_bound.proofs.SettledTasks.{settled_task}
-use Rattle.cl_tight.specs.TightAnswers.{tight_answers_of, tight_response}
-use Rattle.cl_tight.specs.TightTimings.{tight_timing}
-use Rattle.cl_tight.proofs.EarliestReads.{read_no_earlier}
-use Rattle.cl_tight.proofs.LatestWrites.{write_within, written_by}
-use Rattle.cl_tight.proofs.TightTasks.{tight_task, tight_of_settled}
-use Rattle.cl_tight.proofs.TightTimings.{holds_execution, by_deadline}
+use Rattle.cl_bound.specs.{Answers.{answers_of, answer_at, is_late, response_in}, Bounds.settled_timing, Hops.group_timing, declared.group_timing.GroupTiming.GroupTiming, NoGreater.StaysWithin, SettledChains.IsGroupOfTask, Timings.{IsTimingOf, AlwaysKeeps}}
+use Rattle.cl_bound.proofs.{ModelGroups.group_of_system, NoGreater.stays_within, SettledTasks.settled_task}
+use Rattle.cl_tight.specs.{TightAnswers.{tight_answers_of, tight_response}, TightTimings.tight_timing}
+use Rattle.cl_tight.proofs.{EarliestReads.read_no_earlier, LatestWrites.{write_within, written_by}, TightTasks.{tight_task, tight_of_settled}, TightTimings.{holds_execution, by_deadline}}
 
 -- it is of the group
 pub tight_timing_is : (system : System) (group : Group) → IsTimingOf system group (tight_timing system group)

@@ -4,10 +4,8 @@ use Rattle.std.specs.Option.{option_map}
 use Rattle.std.proofs.lemmas.List.{get_or-map}
 use Rattle.std.proofs.Math.ListN.{length-map}
 use Rattle.cl_runs.specs.TaskTiming.{Timing, System, timing_at, no_timing}
-use Rattle.cl_resp.specs.Question.{tight_question_of}
-use Rattle.cl_resp.specs.Response.{busy_window, response_to}
-use Rattle.cl_bound.specs.declared.answer.TaskAnswer.{TaskAnswer}
-use Rattle.cl_bound.specs.Answers.{answer_with}
+use Rattle.cl_resp.specs.{Question.tight_question_of, Response.{busy_window, response_to}}
+use Rattle.cl_bound.specs.{declared.answer.TaskAnswer.TaskAnswer, Answers.answer_with}
 use Rattle.cl_tight.specs.Inner.Windows.{window_in}
 
 -- an answer has the window that it was made with

@@ -3,53 +3,24 @@ use Rattle.std.proofs.Common.{◌≡◌, ℕ, ◌≤◌, ◌<◌, Bool, true, fa
 use Rattle.std.specs.Prelude.{All}
 use Rattle.std.proofs.lemmas.List.{get_or-map}
 use Rattle.std.proofs.lemmas.List.Elements.{All-weaker}
-use Rattle.cl_model.specs.declared.model.SystemModel.{SystemModel}
-use Rattle.cl_model.specs.declared.group.Group.{Group}
-use Rattle.cl_model.specs.ByNumber.{no_chain, chain_at}
-use Rattle.cl_model.specs.Groups.{steps_of, groups_at, IsGroupOf}
-use Rattle.cl_model.specs.Validity.{IsValid}
+use Rattle.cl_model.specs.{declared.{model.SystemModel.SystemModel, group.Group.Group}, ByNumber.{no_chain, chain_at}, Groups.{steps_of, groups_at, IsGroupOf}, Validity.IsValid}
 use Rattle.cl_model.proofs.GroupFacts.{groups_at_are, groups_at_some}
-use Rattle.cl_runs.specs.TaskTiming.{System}
-use Rattle.cl_runs.specs.SystemOf.{system_of}
+use Rattle.cl_runs.specs.{TaskTiming.System, SystemOf.system_of, Responses.{AlwaysFinishesWithin, IsTimely}}
 use Rattle.cl_runs.proofs.ModelSystem.{count_is, system_sound}
-use Rattle.cl_runs.specs.Responses.{AlwaysFinishesWithin, IsTimely}
-use Rattle.cl_resp.specs.ByPhase.{IsSettledByPhase}
-use Rattle.cl_resp.specs.Response.{Response}
-use Rattle.cl_bound.specs.declared.answer.TaskAnswer.{TaskAnswer}
-use Rattle.cl_bound.specs.declared.answer.TaskAnswer.TheVariants as answer
-use Rattle.cl_bound.specs.Answers.{answer_with, answers_of, answer_at, is_late, response_in, NoneIsLate}
-use Rattle.cl_bound.specs.Bounds.{Lengths, settled_timing, bounds_of}
-use Rattle.cl_bound.specs.NoGreater.{AreNoGreater}
-use Rattle.cl_bound.specs.Promises.{AreSafe}
-use Rattle.cl_bound.specs.SettledChains.{IsGroupOfTask, IsSettledChain}
-use Rattle.cl_bound.proofs.KeptWindows.{response_timing_is}
-use Rattle.cl_bound.proofs.ModelGroups.{group_of_system}
-use Rattle.cl_bound.proofs.SettledChains.{settled_sums}
-use Rattle.cl_bound.proofs.SettledTasks.{settled_task}
-use Rattle.cl_exact.specs.TimedPeriodic.{is_timed_periodic_chain}
-use Rattle.cl_exact.specs.ExactLengths.{Witnesses}
-use Rattle.cl_tight.specs.TightAnswers.{tight_answers_of, tight_response}
-use Rattle.cl_tight.specs.TightTimings.{tight_timing}
-use Rattle.cl_phase.specs.TightBounds.{tight_bounds}
-use Rattle.cl_tight.specs.ExactBounds.{AreLengthsOf}
-use Rattle.cl_tight.proofs.ModelTight.{phased_of_chain}
-use Rattle.cl_tight.proofs.PhasedTimings.{tight_keeps, stays_by_report}
-use Rattle.cl_tight.proofs.TightTasks.{phased_answer, tight_task, tight_of_settled, tight_group}
-use Rattle.cl_resp.proofs.LeastParts.{settled_timely}
-use Rattle.cl_phase.proofs.TightSafety.{kept_safe, tight_within_sums}
-use Rattle.cl_phase.proofs.WiderWalks.{tight_within_wider}
-use Rattle.cl_phase.specs.CompleteChains.{HasCompleteChains, AreSomeTicks}
-use Rattle.cl_phase.proofs.ChainsComplete.{has_complete_chains}
-use Rattle.cl_phase.proofs.SomeTicks.{take_time}
+use Rattle.cl_resp.specs.{ByPhase.IsSettledByPhase, Response.Response}
+use Rattle.cl_bound.specs.{declared.answer.TaskAnswer.TaskAnswer, Answers.{answer_with, answers_of, answer_at, is_late, response_in, NoneIsLate}, Bounds.{Lengths, settled_timing, bounds_of}, NoGreater.AreNoGreater, Promises.AreSafe, SettledChains.{IsGroupOfTask, IsSettledChain}}
 use Rattle.cl_bound.specs.Timings.{AlwaysKeeps}
-use Rattle.cl_analyse.specs.declared.findings.ChainAnswer.{ChainAnswer}
-use Rattle.cl_analyse.specs.declared.findings.ChainAnswer.TheVariants.{Bounds, Late}
-use Rattle.cl_analyse.specs.declared.findings.ExactAnswer.{ExactAnswer}
-use Rattle.cl_analyse.specs.declared.findings.ExactAnswer.TheVariants.{Exact, NotTimed, ChainLate}
-use Rattle.cl_analyse.specs.ChainAnswers.{first_late, chain_answer, chain_answer_of, chain_answers_of, chain_answer_at, exact_answer_at, IsTimelyAnswer, IsExactAnswer, AreExactAnswers}
-use Rattle.cl_analyse.proofs.FirstLate.{settled_groups, none_late}
-use Rattle.cl_analyse.proofs.SafeFindings.{answer_of_chain, chain_settled}
-use Rattle.cl_tight.specs.TightFindings.{tight_chain_answer_of, tight_chain_answers_of}
+use Rattle.cl_bound.specs.declared.answer.TaskAnswer.TheVariants as answer
+use Rattle.cl_bound.proofs.{KeptWindows.response_timing_is, ModelGroups.group_of_system, SettledChains.settled_sums, SettledTasks.settled_task}
+use Rattle.cl_exact.specs.{TimedPeriodic.is_timed_periodic_chain, ExactLengths.Witnesses}
+use Rattle.cl_tight.specs.{TightAnswers.{tight_answers_of, tight_response}, TightTimings.tight_timing, ExactBounds.AreLengthsOf, TightFindings.{tight_chain_answer_of, tight_chain_answers_of}}
+use Rattle.cl_phase.specs.{TightBounds.tight_bounds, CompleteChains.{HasCompleteChains, AreSomeTicks}}
+use Rattle.cl_tight.proofs.{ModelTight.phased_of_chain, PhasedTimings.{tight_keeps, stays_by_report}, TightTasks.{phased_answer, tight_task, tight_of_settled, tight_group}}
+use Rattle.cl_resp.proofs.LeastParts.{settled_timely}
+use Rattle.cl_phase.proofs.{TightSafety.{kept_safe, tight_within_sums}, WiderWalks.tight_within_wider, ChainsComplete.has_complete_chains, SomeTicks.take_time}
+use Rattle.cl_analyse.specs.{declared.findings.{ChainAnswer.{ChainAnswer, TheVariants.{Bounds, Late}}, ExactAnswer.{ExactAnswer, TheVariants.{Exact, NotTimed, ChainLate}}}, ChainAnswers.{first_late, chain_answer, chain_answer_of, chain_answers_of, chain_answer_at, exact_answer_at}}
+use Rattle.cl_analyse.specs.ChainAnswers.{IsTimelyAnswer, IsExactAnswer, AreExactAnswers}
+use Rattle.cl_analyse.proofs.{FirstLate.{settled_groups, none_late}, SafeFindings.{answer_of_chain, chain_settled}}
 
 -- bounds are the answer only where no task is late
 bounds_where : (first : Option ℕ) (own bounds : Lengths) → chain_answer first own ≡ Bounds bounds → (first ≡ None) × (own ≡ bounds)

@@ -5,29 +5,15 @@ use Rattle.std.proofs.Math.ListN.{length-map}
 use Rattle.std.proofs.lemmas.Bool.{and_parts}
 use Rattle.std.proofs.lemmas.List.{get_or-map}
 use Rattle.std.proofs.lemmas.List.Sums.{AllPass-from_list_all}
-use Rattle.cl_model.specs.declared.model.SystemModel.{SystemModel}
-use Rattle.cl_model.specs.Validity.{IsValid}
-use Rattle.cl_runs.specs.TaskTiming.{System}
-use Rattle.cl_runs.specs.SystemOf.{system_of}
+use Rattle.cl_model.specs.{declared.model.SystemModel.SystemModel, Validity.IsValid}
+use Rattle.cl_runs.specs.{TaskTiming.System, SystemOf.system_of, Requirements.{no_requirement, requirement_at, IsKept, IsInTime}}
 use Rattle.cl_runs.proofs.TimelyTasks.{meets_deadlines}
-use Rattle.cl_runs.specs.Requirements.{no_requirement, requirement_at, IsKept, IsInTime}
-use Rattle.cl_bound.specs.declared.answer.TaskAnswer.{TaskAnswer}
+use Rattle.cl_bound.specs.{declared.answer.TaskAnswer.TaskAnswer, Answers.{answer_at, is_late}}
 use Rattle.cl_bound.specs.declared.answer.TaskAnswer.TheVariants as answer
-use Rattle.cl_bound.specs.Answers.{answer_at, is_late}
-use Rattle.cl_tight.specs.TightAnswers.{tight_answers_of, tight_response}
-use Rattle.cl_tight.proofs.TightTimings.{answer_count}
-use Rattle.cl_analyse.specs.declared.findings.ChainAnswer.{ChainAnswer}
-use Rattle.cl_analyse.specs.declared.findings.Verdict.{Verdict}
-use Rattle.cl_analyse.specs.declared.findings.Verdict.TheVariants.{Met, Unshown}
-use Rattle.cl_analyse.specs.declared.findings.Findings.{Findings}
-use Rattle.cl_analyse.specs.ChainAnswers.{chain_answer_at}
-use Rattle.cl_analyse.specs.Findings.{AreFindings}
-use Rattle.cl_analyse.specs.Verdicts.{verdict_at, is_met}
+use Rattle.cl_tight.specs.{TightAnswers.{tight_answers_of, tight_response}, TightFindings.{tight_chain_answers_of, tight_verdict_of, tight_findings_of, is_verified}, Promises.{AreSafeTightFindings, AreAsTight}}
+use Rattle.cl_tight.proofs.{TightTimings.answer_count, TightChains.{timely_task, tight_responses_hold, tight_where_settled, own_bounds, tight_bounds_hold, tight_bounds_some, tight_where_bounded, tight_where_exact}, TightRequirements.{met_kept, broken_is}}
+use Rattle.cl_analyse.specs.{declared.findings.{ChainAnswer.ChainAnswer, Verdict.{Verdict, TheVariants.{Met, Unshown}}, Findings.Findings}, ChainAnswers.chain_answer_at, Findings.AreFindings, Verdicts.{verdict_at, is_met}}
 use Rattle.cl_analyse.proofs.InTime.{met_value}
-use Rattle.cl_tight.specs.TightFindings.{tight_chain_answers_of, tight_verdict_of, tight_findings_of, is_verified}
-use Rattle.cl_tight.specs.Promises.{AreSafeTightFindings, AreAsTight}
-use Rattle.cl_tight.proofs.TightChains.{timely_task, tight_responses_hold, tight_where_settled, own_bounds, tight_bounds_hold, tight_bounds_some, tight_where_bounded, tight_where_exact}
-use Rattle.cl_tight.proofs.TightRequirements.{met_kept, broken_is}
 
 -- an answer that passes isn't late
 passes : (answer : TaskAnswer) → not (is_late answer) ≡ true → is_late answer ≡ false

@@ -1,36 +1,18 @@
 -- The lists of tight answers and verdicts, one after the other, and what each of them is.
-use Rattle.std.proofs.Common.{◌≡◌, ℕ, ◌+◌, ◌<◌, ◌≤◌, Bool, true, false, Option, Some, None, List, [], ◌∷◌, ◌++◌, length, get_or, take, map, sym, ap, ◌∙◌, arith}
-use Rattle.std.proofs.lemmas.List.{take_more, take_all, get_or-map}
+use Rattle.std.proofs.Common.{◌≡◌, ℕ, ◌+◌, ◌<◌, Bool, true, false, Option, Some, None, List, [], ◌∷◌, ◌++◌, length, get_or, take, map, sym, ap, ◌∙◌, arith}
+use Rattle.std.proofs.lemmas.List.{take_more, get_or-map}
 use Rattle.std.specs.List.{range_with_len}
 use Rattle.std.proofs.lemmas.List.FromFn.{map-range_with_len_more}
 use Rattle.std.proofs.Math.ListN.{length-map}
-use Rattle.cl_model.specs.declared.model.SystemModel.{SystemModel}
-use Rattle.cl_model.specs.declared.chain.ChainDef.{ChainDef}
-use Rattle.cl_model.specs.declared.chain.RequirementDef.{RequirementDef}
-use Rattle.cl_model.specs.ByNumber.{no_chain}
-use Rattle.cl_model.specs.Groups.{steps_of, groups_of}
-use Rattle.cl_model.specs.Named.{chain_names}
-use Rattle.cl_model.specs.Validity.{IsValid, requirement_check}
-use Rattle.cl_model.proofs.NamePlaces.{place_within}
-use Rattle.cl_model.proofs.PassedChecks.{requirements_pass}
-use Rattle.cl_model.proofs.Refused.{each_none, unless_none}
-use Rattle.cl_runs.specs.SystemOf.{system_of}
+use Rattle.cl_model.specs.{declared.{model.SystemModel.SystemModel, chain.{ChainDef.ChainDef, RequirementDef.RequirementDef}}, ByNumber.no_chain, Groups.{steps_of, groups_of}, Named.chain_names, Validity.{IsValid, requirement_check}}
+use Rattle.cl_model.proofs.{NamePlaces.place_within, PassedChecks.requirements_pass, Refused.{each_none, unless_none}}
+use Rattle.cl_runs.specs.{SystemOf.system_of, Requirements.{required_chain, no_requirement, requirement_at}}
 use Rattle.cl_runs.proofs.ModelSystem.{count_is}
-use Rattle.cl_runs.specs.Requirements.{required_chain, no_requirement, requirement_at}
-use Rattle.cl_bound.specs.declared.answer.TaskAnswer.{TaskAnswer}
-use Rattle.cl_bound.specs.Answers.{answer_at}
-use Rattle.cl_bound.specs.Bounds.{Lengths}
-use Rattle.cl_tight.specs.TightAnswers.{tight_answer_to, tight_answers_of}
-use Rattle.cl_tight.specs.TightTimings.{tight_timing}
+use Rattle.cl_bound.specs.{declared.answer.TaskAnswer.TaskAnswer, Answers.answer_at, Bounds.Lengths}
+use Rattle.cl_tight.specs.{TightAnswers.{tight_answer_to, tight_answers_of}, TightTimings.tight_timing, declared.findings.TightFindings.TightFindings, TightFindings.{tight_chain_answer_of, tight_chain_answers_of, has_exact_bounds, exact_bound, tight_verdict_of, tight_findings_of}}
 use Rattle.cl_phase.specs.TightBounds.{tight_bounds}
 use Rattle.cl_tight.proofs.TightTasks.{phased_answer}
-use Rattle.cl_analyse.specs.declared.findings.ChainAnswer.{ChainAnswer}
-use Rattle.cl_analyse.specs.declared.findings.ChainAnswer.TheVariants.{Bounds, Late}
-use Rattle.cl_analyse.specs.declared.findings.Verdict.{Verdict}
-use Rattle.cl_analyse.specs.ChainAnswers.{first_late, chain_answer, chain_answer_at}
-use Rattle.cl_analyse.specs.Verdicts.{required_bound, verdict_on}
-use Rattle.cl_tight.specs.declared.findings.TightFindings.{TightFindings}
-use Rattle.cl_tight.specs.TightFindings.{tight_chain_answer_of, tight_chain_answers_of, has_exact_bounds, exact_bound, tight_verdict_of, tight_findings_of}
+use Rattle.cl_analyse.specs.{declared.findings.{ChainAnswer.{ChainAnswer, TheVariants.{Bounds, Late}}, Verdict.Verdict}, ChainAnswers.{first_late, chain_answer, chain_answer_at}, Verdicts.{required_bound, verdict_on}}
 
 -- one more of a mapped list
 more_mapped : {X Y : Type 0} (f : X → Y) (xs : List X) (n : ℕ) (d : X) (old new : List Y) (next : Y) → n < length xs → old ≡ take n (map f xs)
@@ -38,9 +20,6 @@ more_mapped : {X Y : Type 0} (f : X → Y) (xs : List X) (n : ℕ) (d : X) (old 
 more_mapped f xs n d old new next lt was is pushed =
     let within : n < length (map f xs) = rw (length-map xs f) lt in
     pushed ∙ ap (λ l. l ++ next ∷ []) was ∙ ap (λ y. take n (map f xs) ++ y ∷ []) (is ∙ sym (get_or-map f xs n d next lt)) ∙ sym (take_more (map f xs) n next within)
-
-all_mapped : {X Y : Type 0} (f : X → Y) (xs : List X) (n : ℕ) → length xs ≤ n → take n (map f xs) ≡ map f xs
-all_mapped f xs n whole = take_all n (map f xs) (rw (length-map xs f) whole)
 
 -- ---- tasks
 
@@ -67,9 +46,6 @@ pub more_chains : (model : SystemModel) (n : ℕ) (old new : List ChainAnswer) (
     → old ≡ take n (tight_chain_answers_of model) → next ≡ tight_chain_answer_of model (get_or model.chains n no_chain)
     → new ≡ old ++ next ∷ [] → new ≡ take (n + 1) (tight_chain_answers_of model)
 more_chains model n = more_mapped (tight_chain_answer_of model) model.chains n no_chain
-
-pub all_chains : (model : SystemModel) (n : ℕ) → length model.chains ≤ n → take n (tight_chain_answers_of model) ≡ tight_chain_answers_of model
-all_chains model n = all_mapped (tight_chain_answer_of model) model.chains n
 
 -- the answer for a chain, from its first late task or from its bounds
 module _ (model : SystemModel) (answers : List TaskAnswer) (chain : ChainDef) (are : answers ≡ tight_answers_of (system_of model)) where

@@ -3,46 +3,19 @@ use Rattle.std.proofs.Common.{◌≡◌, ◌⊎◌, ℕ, ◌+◌, ◌≤◌, ◌
 use Rattle.std.proofs.Math.ListN.{length-map}
 use Rattle.std.proofs.Math.Nat.{lt_of_not-le}
 use Rattle.std.proofs.lemmas.List.{get_or_past}
-use Rattle.cl_model.specs.declared.model.SystemModel.{SystemModel}
-use Rattle.cl_model.specs.declared.chain.LengthKind.TheVariants.{Reaction, Age, Reduced}
-use Rattle.cl_model.specs.declared.chain.RequirementKind.{RequirementKind}
-use Rattle.cl_model.specs.declared.chain.RequirementKind.TheVariants.{Length, Delay}
-use Rattle.cl_model.specs.declared.chain.RequirementDef.{RequirementDef}
-use Rattle.cl_model.specs.declared.group.Group.{Group}
-use Rattle.cl_model.specs.Groups.{groups_at, no_group}
-use Rattle.cl_model.specs.Kinds.{is_timed}
+use Rattle.cl_model.specs.{declared.{model.SystemModel.SystemModel, chain.{LengthKind.TheVariants.{Reaction, Age, Reduced}, RequirementKind.{RequirementKind, TheVariants.{Length, Delay}}, RequirementDef.RequirementDef}, group.Group.Group}, Groups.{groups_at, no_group}, Kinds.is_timed}
 use Rattle.cl_model.specs.Validity.{IsValid}
 use Rattle.cl_model.proofs.GroupFacts.{groups_at_are, groups_at_some}
-use Rattle.cl_runs.specs.TaskTiming.{System, IsSound}
-use Rattle.cl_runs.specs.SystemOf.{system_of}
-use Rattle.cl_runs.specs.Run.{Run}
-use Rattle.cl_runs.specs.Legal.{IsLegal}
-use Rattle.cl_runs.specs.Chains.{first_group}
+use Rattle.cl_runs.specs.{TaskTiming.{System, IsSound}, SystemOf.system_of, Run.Run, Legal.IsLegal, Chains.first_group, Requirements.{required_chain, IsKept, HasLength, IsBrokenBy}}
 use Rattle.cl_runs.proofs.ModelSystem.{system_sound}
-use Rattle.cl_runs.specs.Requirements.{required_chain, IsKept, HasLength, IsBrokenBy}
-use Rattle.cl_bound.specs.Answers.{NoneIsLate}
-use Rattle.cl_bound.specs.Bounds.{Lengths}
-use Rattle.cl_exact.specs.ExactLengths.{Witnesses, chain_of}
-use Rattle.cl_exact.specs.RunPromises.{HaveResponses, HasWitnessRun, IsSettledTimedChain}
-use Rattle.cl_exact.proofs.ExactOnce.{within_or_past}
-use Rattle.cl_exact.proofs.RunExact.{witness_run}
-use Rattle.cl_exact.proofs.RunMoments.{IsIdealTask, task_period}
-use Rattle.cl_exact.proofs.RunTasks.{settled_timed_groups, ideal_groups}
-use Rattle.cl_exact.proofs.SomeExact.{exact_lengths_exist}
-use Rattle.cl_tight.specs.TightAnswers.{tight_answers_of, tight_response}
-use Rattle.cl_tight.specs.ExactBounds.{AreLengthsOf}
-use Rattle.cl_tight.proofs.ModelTight.{phased_of_chain}
-use Rattle.cl_analyse.specs.declared.findings.ChainAnswer.TheVariants.{Bounds, Late}
-use Rattle.cl_analyse.specs.declared.findings.Verdict.TheVariants.{Met, Broken}
-use Rattle.cl_analyse.specs.ChainAnswers.{chain_answer_at}
-use Rattle.cl_analyse.specs.Verdicts.{limited_bound, required_bound}
+use Rattle.cl_bound.specs.{Answers.NoneIsLate, Bounds.Lengths}
+use Rattle.cl_exact.specs.{ExactLengths.{Witnesses, chain_of}, RunPromises.{HaveResponses, HasWitnessRun, IsSettledTimedChain}}
+use Rattle.cl_exact.proofs.{ExactOnce.within_or_past, RunExact.witness_run, RunMoments.{IsIdealTask, task_period}, RunTasks.{settled_timed_groups, ideal_groups}, SomeExact.exact_lengths_exist}
+use Rattle.cl_tight.specs.{TightAnswers.{tight_answers_of, tight_response}, ExactBounds.AreLengthsOf, TightFindings.{tight_chain_answer_of, tight_chain_answers_of, has_exact_bounds, exact_bound, tight_verdict_of}, TightTimings.tight_timing}
+use Rattle.cl_tight.proofs.{ModelTight.phased_of_chain, CommonPeriods.exact_where, ExactDelays.{taken, takes_on, shorter_by_a_period}, TightChains.{timely_task, own_bounds, timings_keep, tight_given, tight_bounds_hold}}
+use Rattle.cl_analyse.specs.{declared.findings.{ChainAnswer.TheVariants.{Bounds, Late}, Verdict.TheVariants.{Met, Broken}}, ChainAnswers.chain_answer_at, Verdicts.{limited_bound, required_bound}}
 use Rattle.cl_analyse.proofs.KeptRequirements.{met_by, broken_by, bound_valued, kind_bound, HasChain}
-use Rattle.cl_tight.specs.TightFindings.{tight_chain_answer_of, tight_chain_answers_of, has_exact_bounds, exact_bound, tight_verdict_of}
-use Rattle.cl_tight.proofs.CommonPeriods.{exact_where}
 use Rattle.cl_phase.proofs.DelayReactions.{timed_delay}
-use Rattle.cl_tight.specs.TightTimings.{tight_timing}
-use Rattle.cl_tight.proofs.ExactDelays.{taken, takes_on, shorter_by_a_period}
-use Rattle.cl_tight.proofs.TightChains.{timely_task, own_bounds, timings_keep, tight_given, tight_bounds_hold}
 
 -- ---- kinds
 

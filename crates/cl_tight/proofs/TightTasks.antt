@@ -5,12 +5,8 @@ use Rattle.std.proofs.lemmas.Bool.{true≢false}
 use Rattle.std.proofs.lemmas.List.FromFn.{get_or-map-range_with_len}
 use Rattle.cl_model.specs.declared.group.Group.{Group}
 use Rattle.cl_runs.specs.TaskTiming.{System, IsSound}
-use Rattle.cl_resp.specs.ByPhase.{response_by_phase, IsSettledByPhase}
-use Rattle.cl_resp.specs.Response.{Response, IsSettled}
-use Rattle.cl_bound.specs.declared.answer.TaskAnswer.{TaskAnswer}
-use Rattle.cl_bound.specs.declared.answer.TaskAnswer.TheVariants.{Late}
-use Rattle.cl_bound.specs.Answers.{answer_with, is_late, response_in, answer_at, answers_of}
-use Rattle.cl_bound.specs.SettledChains.{IsSettledChain}
+use Rattle.cl_resp.specs.{ByPhase.{response_by_phase, IsSettledByPhase}, Response.{Response, IsSettled}}
+use Rattle.cl_bound.specs.{declared.answer.TaskAnswer.{TaskAnswer, TheVariants.Late}, Answers.{answer_with, is_late, response_in, answer_at, answers_of}, SettledChains.IsSettledChain}
 use Rattle.cl_bound.proofs.SettledTasks.{settled_task}
 use Rattle.cl_tight.specs.TightAnswers.{tight_answer_to, tight_answers_of, tight_response}
 use Rattle.cl_resp.proofs.AnsweredSooner.{report_by_phase}

@@ -1,18 +1,11 @@
 -- By phases, as by anything else, a timed group reads at its arrival and writes at its deadline.
 use Rattle.std.proofs.Common.{◌≡◌, ℕ, Bool, true, Option, Some, None, refl}
-use Rattle.cl_model.specs.declared.group.Group.{Group}
-use Rattle.cl_model.specs.declared.task.AccessKind.{AccessKind}
-use Rattle.cl_model.specs.declared.task.AccessKind.TheVariants.{Explicit, Implicit, Timed}
-use Rattle.cl_model.specs.Kinds.{is_timed}
+use Rattle.cl_model.specs.{declared.{group.Group.Group, task.AccessKind.{AccessKind, TheVariants.{Explicit, Implicit, Timed}}}, Kinds.is_timed}
 use Rattle.cl_runs.specs.TaskTiming.{System, timing_at}
-use Rattle.cl_stim.specs.declared.phase.Phase.{Phase}
-use Rattle.cl_stim.specs.Phase.{phase_of}
+use Rattle.cl_stim.specs.{declared.phase.Phase.Phase, Phase.phase_of}
 use Rattle.cl_comm.specs.Windows.{spot_at}
-use Rattle.cl_lead.specs.Ahead.{least_lead}
-use Rattle.cl_lead.specs.Leads.{ahead_of, before_read, lead_if, lead_with, lead_at}
-use Rattle.cl_tight.specs.TightAnswers.{tight_response}
-use Rattle.cl_tight.specs.TightTimings.{part_response, write_by, tight_timing}
-use Rattle.cl_tight.specs.ExactBounds.{IsTimedTiming}
+use Rattle.cl_lead.specs.{Ahead.least_lead, Leads.{ahead_of, before_read, lead_if, lead_with, lead_at}}
+use Rattle.cl_tight.specs.{TightAnswers.tight_response, TightTimings.{part_response, write_by, tight_timing}, ExactBounds.IsTimedTiming}
 use Rattle.cl_tight.proofs.PhasedTimings.{tight_timing_is}
 
 no_lead : (access : AccessKind) (phase : Option Phase) (before lead : ℕ) → is_timed access ≡ true

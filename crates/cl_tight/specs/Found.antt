@@ -2,9 +2,7 @@
 use Rattle.std.specs.Prelude.{◌≡◌, ℕ, [], Option, Some, None, slice_index_or}
 use Rattle.cl_runs.specs.TaskTiming.{System}
 use Rattle.cl_lead.specs.Leads.{lead_at}
-use Rattle.cl_tight.specs.TightTimings.{part_response}
-use Rattle.cl_tight.specs.declared.found.FoundNumbers.{FoundNumbers}
-use Rattle.cl_tight.specs.declared.access_windows.AccessWindows.{AccessWindows}
+use Rattle.cl_tight.specs.{TightTimings.part_response, declared.{found.FoundNumbers.FoundNumbers, access_windows.AccessWindows.AccessWindows}}
 
 -- the number that has been found of a runnable, given by its task and its place in the task
 abbrev pub number_found : FoundNumbers → (task place : ℕ) → Option ℕ

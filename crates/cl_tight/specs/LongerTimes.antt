@@ -1,13 +1,9 @@
 -- Groups whose times are no longer in one system than in another, and models that differ in greatest times alone.
 use Rattle.std.specs.Prelude.{◌≡◌, ℕ, ◌≤◌}
-use Rattle.cl_model.specs.declared.group.Group.{Group}
-use Rattle.cl_model.specs.declared.model.SystemModel.{SystemModel}
-use Rattle.cl_model.specs.Groups.{groups_at}
-use Rattle.cl_runs.specs.SystemOf.{system_of}
-use Rattle.cl_runs.specs.TaskTiming.{System, timing_at}
+use Rattle.cl_model.specs.{declared.{group.Group.Group, model.SystemModel.SystemModel}, Groups.groups_at}
+use Rattle.cl_runs.specs.{SystemOf.system_of, TaskTiming.{System, timing_at}}
 use Rattle.cl_lead.specs.LeastTimes.{HaveSameLeastTimes}
-use Rattle.cl_resp.specs.Clear.{greatest_through}
-use Rattle.cl_resp.specs.LesserTimes.{TakesNoMore}
+use Rattle.cl_resp.specs.{Clear.greatest_through, LesserTimes.TakesNoMore}
 
 -- the task of a group, what blocks it and each task above it take at most as long in one system as in the other, and so
 -- do its runnables up to the last of the group

@@ -1,26 +1,13 @@
 -- What tight findings promise: in every legal run, of any length.
 use Rattle.std.specs.Prelude.{◌≡◌, ℕ, ◌<◌, ◌≤◌, length}
-use Rattle.cl_model.specs.declared.model.SystemModel.{SystemModel}
-use Rattle.cl_model.specs.Groups.{groups_at}
-use Rattle.cl_runs.specs.SystemOf.{system_of}
-use Rattle.cl_runs.specs.Requirements.{requirement_at, IsKept, IsBrokenBy}
-use Rattle.cl_runs.specs.Responses.{AlwaysFinishesWithin}
+use Rattle.cl_model.specs.{declared.model.SystemModel.SystemModel, Groups.groups_at}
+use Rattle.cl_runs.specs.{SystemOf.system_of, Requirements.{requirement_at, IsKept, IsBrokenBy}, Responses.AlwaysFinishesWithin}
 use Rattle.cl_resp.specs.Response.{Response}
-use Rattle.cl_bound.specs.declared.answer.TaskAnswer.TheVariants.{Settled}
-use Rattle.cl_bound.specs.Answers.{answer_at}
-use Rattle.cl_bound.specs.Bounds.{Lengths}
-use Rattle.cl_bound.specs.NoGreater.{AreNoGreater}
-use Rattle.cl_bound.specs.Promises.{AreSafe}
+use Rattle.cl_bound.specs.{declared.answer.TaskAnswer.TheVariants.Settled, Answers.answer_at, Bounds.Lengths, NoGreater.AreNoGreater, Promises.AreSafe}
 use Rattle.cl_exact.specs.ExactLengths.{Witnesses}
 use Rattle.cl_phase.specs.CompleteChains.{AreSomeTicks}
-use Rattle.cl_tight.specs.ExactBounds.{AreLengthsOf}
-use Rattle.cl_analyse.specs.declared.findings.ChainAnswer.TheVariants.{Bounds}
-use Rattle.cl_analyse.specs.declared.findings.ExactAnswer.TheVariants.{Exact}
-use Rattle.cl_analyse.specs.declared.findings.Verdict.TheVariants.{Met, Broken}
-use Rattle.cl_analyse.specs.declared.findings.Findings.{Findings}
-use Rattle.cl_analyse.specs.ChainAnswers.{chain_answer_at, exact_answer_at}
-use Rattle.cl_analyse.specs.Verdicts.{verdict_at}
-use Rattle.cl_tight.specs.declared.findings.TightFindings.{TightFindings}
+use Rattle.cl_tight.specs.{ExactBounds.AreLengthsOf, declared.findings.TightFindings.TightFindings}
+use Rattle.cl_analyse.specs.{declared.findings.{ChainAnswer.TheVariants.Bounds, ExactAnswer.TheVariants.Exact, Verdict.TheVariants.{Met, Broken}, Findings.Findings}, ChainAnswers.{chain_answer_at, exact_answer_at}, Verdicts.verdict_at}
 
 -- The findings are safe. In every legal run each job of a settled task finishes within its response, each tight
 -- bound is at least the length of every complete chain of its kind, and 1 tick or more, what is met is kept, and what is

@@ -3,8 +3,7 @@ use Rattle.std.specs.Prelude.{ℕ, List, map, length}
 use Rattle.std.specs.List.{range_with_len}
 use Rattle.cl_runs.specs.TaskTiming.{System}
 use Rattle.cl_resp.specs.ByPhase.{response_by_phase}
-use Rattle.cl_bound.specs.declared.answer.TaskAnswer.{TaskAnswer}
-use Rattle.cl_bound.specs.Answers.{answer_with, answer_at, response_in}
+use Rattle.cl_bound.specs.{declared.answer.TaskAnswer.TaskAnswer, Answers.{answer_with, answer_at, response_in}}
 
 -- the answer by phases for the task of a number
 abbrev pub tight_answer_to : System → (task : ℕ) → TaskAnswer

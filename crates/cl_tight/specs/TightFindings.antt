@@ -1,27 +1,14 @@
 -- What is found of a model by responses by phases and tight bounds.
 use Rattle.std.specs.Prelude.{ℕ, Bool, true, false, not, ◌&&◌, nat_le, List, map, fold, Option, None}
 use Rattle.std.specs.List.{list_all}
-use Rattle.cl_model.specs.declared.model.SystemModel.{SystemModel}
-use Rattle.cl_model.specs.declared.chain.ChainDef.{ChainDef}
-use Rattle.cl_model.specs.declared.chain.RequirementDef.{RequirementDef}
-use Rattle.cl_model.specs.declared.group.Group.{Group}
-use Rattle.cl_model.specs.Groups.{steps_of, groups_of, groups_at}
-use Rattle.cl_runs.specs.TaskTiming.{System}
-use Rattle.cl_runs.specs.SystemOf.{system_of}
-use Rattle.cl_runs.specs.Requirements.{required_chain}
+use Rattle.cl_model.specs.{declared.{model.SystemModel.SystemModel, chain.{ChainDef.ChainDef, RequirementDef.RequirementDef}, group.Group.Group}, Groups.{steps_of, groups_of, groups_at}}
+use Rattle.cl_runs.specs.{TaskTiming.System, SystemOf.system_of, Requirements.required_chain}
 use Rattle.cl_stim.specs.Multiples.{common_multiple}
-use Rattle.cl_bound.specs.declared.answer.TaskAnswer.{TaskAnswer}
-use Rattle.cl_bound.specs.Answers.{is_late}
-use Rattle.cl_exact.specs.TimedPeriodic.{is_timed_periodic_chain}
-use Rattle.cl_exact.specs.Hyperperiod.{period_of, hyper_limit}
+use Rattle.cl_bound.specs.{declared.answer.TaskAnswer.TaskAnswer, Answers.is_late}
+use Rattle.cl_exact.specs.{TimedPeriodic.is_timed_periodic_chain, Hyperperiod.{period_of, hyper_limit}}
 use Rattle.cl_phase.specs.TightBounds.{tight_bounds}
-use Rattle.cl_analyse.specs.declared.findings.ChainAnswer.{ChainAnswer}
-use Rattle.cl_analyse.specs.declared.findings.Verdict.{Verdict}
-use Rattle.cl_analyse.specs.ChainAnswers.{first_late, chain_answer, chain_answer_at}
-use Rattle.cl_analyse.specs.Verdicts.{required_bound, verdict_on, is_met}
-use Rattle.cl_tight.specs.TightAnswers.{tight_answers_of}
-use Rattle.cl_tight.specs.TightTimings.{tight_timing}
-use Rattle.cl_tight.specs.declared.findings.TightFindings.{TightFindings}
+use Rattle.cl_analyse.specs.{declared.findings.{ChainAnswer.ChainAnswer, Verdict.Verdict}, ChainAnswers.{first_late, chain_answer, chain_answer_at}, Verdicts.{required_bound, verdict_on, is_met}}
+use Rattle.cl_tight.specs.{TightAnswers.tight_answers_of, TightTimings.tight_timing, declared.findings.TightFindings.TightFindings}
 
 -- ---- chains
 

@@ -1,18 +1,12 @@
 //! How early the groups of a model read, and how late they have written, by the phases of their
 //! cores. Times are in ticks.
 ghost use Rattle.std.specs.Prelude.{◌≡◌, ◌≢◌, ℕ, ◌<◌, ◌≤◌, None, false, length, map, All, IfOk};
-ghost use Rattle.cl_model.specs.declared.limits.TheConstants.{MOST_STEPS};
-ghost use Rattle.cl_model.specs.ByNumber.{task_at};
-ghost use Rattle.cl_model.specs.Groups.{IsGroupOf};
-ghost use Rattle.cl_runs.specs.SystemOf.{system_of};
-ghost use Rattle.cl_runs.specs.TaskTiming.{timing_at};
+ghost use Rattle.cl_model.specs.{declared.limits.TheConstants.MOST_STEPS, ByNumber.task_at, Groups.IsGroupOf};
+ghost use Rattle.cl_runs.specs.{SystemOf.system_of, TaskTiming.timing_at};
 ghost use Rattle.cl_lead.specs.Leads.{lead_at};
 ghost use Rattle.cl_resp.specs.ByPhase.{IsSettledByPhase};
-ghost use Rattle.cl_bound.specs.Answers.{answer_at, is_late, response_in, NoneIsLate};
-ghost use Rattle.cl_bound.specs.Hops.{IsNear};
-ghost use Rattle.cl_tight.specs.TightAnswers.{tight_answers_of, tight_response};
-ghost use Rattle.cl_tight.specs.TightTimings.{earliest_read, part_response, latest_write, tight_timing};
-ghost use Rattle.cl_tight.specs.Found.{number_found, AreWindowsOf};
+ghost use Rattle.cl_bound.specs.{Answers.{answer_at, is_late, response_in, NoneIsLate}, Hops.IsNear};
+ghost use Rattle.cl_tight.specs.{TightAnswers.{tight_answers_of, tight_response}, TightTimings.{earliest_read, part_response, latest_write, tight_timing}, Found.{number_found, AreWindowsOf}};
 
 use crate::found::FoundNumbers;
 use arrayvec::ArrayVec;

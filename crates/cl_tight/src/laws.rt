@@ -1,13 +1,10 @@
 //! Tight findings of a valid model are safe, at least as tight as those of the report, and verify
 //! that a model is in time.
 ghost use Rattle.std.specs.Prelude.{◌≡◌, true};
-ghost use Rattle.cl_model.specs.declared.model.SystemModel.{SystemModel};
-ghost use Rattle.cl_model.specs.Validity.{IsValid};
-ghost use Rattle.cl_analyse.specs.declared.findings.Findings.{Findings};
-ghost use Rattle.cl_analyse.specs.Findings.{AreFindings};
-ghost use Rattle.cl_tight.specs.TightFindings.{tight_findings_of, is_verified};
+ghost use Rattle.cl_model.specs.{declared.model.SystemModel.SystemModel, Validity.IsValid};
+ghost use Rattle.cl_analyse.specs.{declared.findings.Findings.Findings, Findings.AreFindings};
+ghost use Rattle.cl_tight.specs.{TightFindings.{tight_findings_of, is_verified}, Promises.{AreSafeTightFindings, AreAsTight}};
 ghost use Rattle.cl_runs.specs.Requirements.{IsInTime};
-ghost use Rattle.cl_tight.specs.Promises.{AreSafeTightFindings, AreAsTight};
 
 pub mod complete;
 pub mod exact;

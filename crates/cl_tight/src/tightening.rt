@@ -1,23 +1,14 @@
 //! Tight findings. Times are in ticks.
 ghost use Rattle.std.specs.Prelude.{◌≡◌, ◌+◌, ◌<◌, ◌≤◌, not, length, map, IsTrue, IfOk};
 ghost use Rattle.std.specs.List.{list_all};
-ghost use Rattle.cl_model.specs.ByNumber.{chain_at};
-ghost use Rattle.cl_model.specs.Groups.{groups_at};
-ghost use Rattle.cl_model.specs.Validity.{IsValid};
-ghost use Rattle.cl_runs.specs.SystemOf.{system_of};
-ghost use Rattle.cl_runs.specs.Requirements.{required_chain, IsInTime};
-ghost use Rattle.cl_runs.specs.TaskTiming.{timing_at};
-ghost use Rattle.cl_resp.specs.Question.{tight_question_of};
-ghost use Rattle.cl_resp.specs.Response.{busy_window};
+ghost use Rattle.cl_model.specs.{ByNumber.chain_at, Groups.groups_at, Validity.IsValid};
+ghost use Rattle.cl_runs.specs.{SystemOf.system_of, Requirements.{required_chain, IsInTime}, TaskTiming.timing_at};
+ghost use Rattle.cl_resp.specs.{Question.tight_question_of, Response.busy_window};
 ghost use Rattle.cl_bound.specs.Answers.{is_late, answer_at, NoneIsLate};
 ghost use Rattle.cl_phase.specs.TightBounds.{tight_bounds};
-ghost use Rattle.cl_tight.specs.TightAnswers.{tight_answers_of};
-ghost use Rattle.cl_analyse.specs.Verdicts.{is_met};
-ghost use Rattle.cl_tight.specs.TightFindings.{tight_chain_answer_of, tight_chain_answers_of, has_exact_bounds, tight_verdict_of, tight_findings_of, is_verified};
-ghost use Rattle.cl_tight.specs.Promises.{AreSafeTightFindings};
-ghost use Rattle.cl_tight.specs.TightTimings.{tight_timing};
-ghost use Rattle.cl_tight.specs.Found.{AreWindowsOf};
+ghost use Rattle.cl_tight.specs.{TightAnswers.tight_answers_of, TightFindings.{tight_chain_answer_of, tight_chain_answers_of, has_exact_bounds, tight_verdict_of, tight_findings_of, is_verified}, Promises.AreSafeTightFindings, TightTimings.tight_timing, Found.AreWindowsOf};
 ghost use Rattle.cl_tight.specs.Inner.Windows.{window_in};
+ghost use Rattle.cl_analyse.specs.Verdicts.{is_met};
 
 use crate::access_windows::AccessWindows;
 use crate::findings::TightFindings;

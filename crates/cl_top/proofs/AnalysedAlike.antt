@@ -1,18 +1,9 @@
 -- The text of `migrate` is analysed as the file that it was made of.
 use Rattle.std.proofs.Common.{◌≡◌, ◌↔◌, ℕ, List, Some, Ok, sym, ap, subst, ◌∙◌, inl}
-use Rattle.cl_model.specs.declared.model.SystemModel.{SystemModel}
-use Rattle.cl_model.specs.Reading.{model_of}
-use Rattle.cl_engine.specs.declared.files.TheConstants.{FILE_LIMIT}
-use Rattle.cl_engine.specs.declared.outcome.Outcome.{Outcome}
-use Rattle.cl_engine.specs.Content.{Model}
-use Rattle.cl_engine.specs.Fetched.{Fetched, Bytes, told_fetch}
-use Rattle.cl_engine.specs.Files.{model_file}
-use Rattle.cl_engine.specs.Outcome.{ReadsTo, OpensTo, HasOutcome}
-use Rattle.cl_engine.proofs.Outcomes.{done_model}
-use Rattle.cl_engine.proofs.Tellings.{told_bytes}
-use Rattle.cl_top.specs.declared.command.Command.TheVariants.{Analyse, Migrate}
-use Rattle.cl_top.specs.Commands.{meaning_of, commands, IsOutcomeOf}
-use Rattle.cl_top.specs.Migrated.{IsMigratedFile}
+use Rattle.cl_model.specs.{declared.model.SystemModel.SystemModel, Reading.model_of}
+use Rattle.cl_engine.specs.{declared.{files.TheConstants.FILE_LIMIT, outcome.Outcome.Outcome}, Content.Model, Fetched.{Fetched, Bytes, told_fetch}, Files.model_file, Outcome.{ReadsTo, OpensTo, HasOutcome}}
+use Rattle.cl_engine.proofs.{Outcomes.done_model, Tellings.told_bytes}
+use Rattle.cl_top.specs.{declared.command.Command.TheVariants.{Analyse, Migrate}, Commands.{meaning_of, commands, IsOutcomeOf}, Migrated.IsMigratedFile}
 
 -- what comes next of a model that is analysed
 abbrev analysed : SystemModel → Outcome → Type 0

@@ -1,36 +1,16 @@
 -- The commands of the program as the engine takes them: each has an outcome, outcomes of the same words say the same, and
 -- what is printed is safe.
 use Rattle.std.proofs.Common.{◌≡◌, ℕ, List, [], ◌∷◌, Option, Some, None, refl, sym, ap, ◌∙◌, subst, length, inl, inr, arith, ◌≤◌}
-use Rattle.cl_io.specs.Shelf.{Held, Content as Told, MayBe}
-use Rattle.cl_io.specs.Sink.{appended}
-use Rattle.cl_engine.specs.declared.files.Files.{Files}
+use Rattle.cl_io.specs.{Shelf.{Held, Content as Told, MayBe}, Sink.appended}
+use Rattle.cl_engine.specs.{declared.{files.{Files.Files, TheConstants.FILE_LIMIT}, outcome.Outcome.Outcome, status.TheConstants.{DONE, EDITS_REFUSED, NOT_VERIFIED}}, Calls.{ShelfCall, SinkCall}, Content.{Content, Nothing, Bytes as Whole, Model, ModelAnd, Fits, Means}, Fetched.Fetched}
+use Rattle.cl_engine.specs.{Fetched.{Bytes, MayGive, EachFile, WasFetched, TellsFiles, told_fetch}, Files.{File, model_file, files_named, word}, SoundCall.IsSoundCall, Language.{IsOfContent, files_asked, files_of as files_of_words}, Outcome.{words_refused, MayEnd, HasOutcome}, Run.ComesAs}
+use Rattle.cl_engine.specs.Run.{ComesTo, IsCarriedOut, Ends}
 use Rattle.cl_engine.specs.declared.files.Files.TheVariants as files
-use Rattle.cl_engine.specs.declared.files.TheConstants.{FILE_LIMIT}
-use Rattle.cl_engine.specs.declared.outcome.Outcome.{Outcome}
-use Rattle.cl_engine.specs.declared.status.TheConstants.{DONE, EDITS_REFUSED, NOT_VERIFIED}
-use Rattle.cl_engine.specs.Calls.{ShelfCall, SinkCall}
-use Rattle.cl_engine.specs.Content.{Content, Nothing, Bytes as Whole, Model, ModelAnd, Fits, Means}
-use Rattle.cl_engine.specs.Fetched.{Fetched, Bytes, MayGive, EachFile, WasFetched, TellsFiles, told_fetch}
-use Rattle.cl_engine.specs.Files.{File, model_file, files_named, word}
-use Rattle.cl_engine.specs.SoundCall.{IsSoundCall}
-use Rattle.cl_engine.specs.Language.{IsOfContent, files_asked, files_of as files_of_words}
-use Rattle.cl_engine.specs.Outcome.{words_refused, MayEnd, HasOutcome}
-use Rattle.cl_engine.specs.Run.{ComesAs, ComesTo, IsCarriedOut, Ends}
-use Rattle.cl_engine.proofs.Openings.{valid_read}
-use Rattle.cl_engine.proofs.Outcomes.{IsOpened, SomeOutcome, some_opens, same_opens, IsOfTold, opens_of_told, done_model, no_want}
-use Rattle.cl_engine.proofs.Tellings.{IsToldOwn, told_own}
+use Rattle.cl_engine.proofs.{Openings.valid_read, Outcomes.{IsOpened, SomeOutcome, some_opens, same_opens, IsOfTold, opens_of_told, done_model, no_want}, Tellings.{IsToldOwn, told_own}}
 use Rattle.cl_verify.specs.VerifyText.{IsVerifyTextOf}
-use Rattle.cl_top.specs.declared.command.Command.{Command}
-use Rattle.cl_top.specs.declared.command.Command.TheVariants.{Analyse, Verify, Edit}
-use Rattle.cl_top.specs.Command.{files_read, command_of}
-use Rattle.cl_top.specs.Commands.{meaning_of, commands, IsOutcomeOf, TakesStepsOf, SaysTheSame}
-use Rattle.cl_top.specs.Commands.Edit.{StopsSafely}
-use Rattle.cl_top.specs.Headline.{HasReported, HasReportedSome}
-use Rattle.cl_top.specs.Meaning.{promises, promises_of_both}
-use Rattle.cl_top.specs.Printed.{HasPrinted, HasPrintedSafe, HasStoppedSafely, HasDecided, ProvesInTime}
-use Rattle.cl_top.proofs.WellMeant.{meant_well, asks_for_few}
-use Rattle.cl_top.proofs.WellMeant.Edit.{stops_safely}
-use Rattle.cl_top.proofs.SafeReport.{safe_report_of}
+use Rattle.cl_top.specs.{declared.command.Command.{Command, TheVariants.{Analyse, Verify, Edit}}, Command.{files_read, command_of}, Commands.{meaning_of, commands, IsOutcomeOf, TakesStepsOf, SaysTheSame, Edit.StopsSafely}, Headline.{HasReported, HasReportedSome}, Meaning.promises}
+use Rattle.cl_top.specs.{Meaning.promises_of_both, Printed.{HasPrinted, HasPrintedSafe, HasStoppedSafely, HasDecided, ProvesInTime}}
+use Rattle.cl_top.proofs.{WellMeant.{meant_well, asks_for_few, Edit.stops_safely}, SafeReport.safe_report_of}
 
 -- ---- the laws of outcomes
 

@@ -1,13 +1,8 @@
 -- A run is answered in one way: by what comes of it where it is legal, or by the first rule that it breaks.
 use Rattle.std.proofs.Common.{◌≡◌, ℕ, inl, inr, sym, ap, ◌∙◌}
 use Rattle.cl_model.specs.declared.model.SystemModel.{SystemModel}
-use Rattle.cl_runs.specs.Run.{Run}
-use Rattle.cl_runs.specs.SystemOf.{system_of}
-use Rattle.cl_runs.specs.Legal.{IsLegal}
-use Rattle.cl_check.specs.declared.run_fault.Rule.{Rule}
-use Rattle.cl_check.specs.declared.run_fault.RunFault.{RunFault}
-use Rattle.cl_check.specs.declared.run_fault.RunFault.TheVariants.{Illegal, NoMemory}
-use Rattle.cl_check.specs.Legality.{IsFirstBroken}
+use Rattle.cl_runs.specs.{Run.Run, SystemOf.system_of, Legal.IsLegal}
+use Rattle.cl_check.specs.{declared.run_fault.{Rule.Rule, RunFault.{RunFault, TheVariants.{Illegal, NoMemory}}}, Legality.IsFirstBroken}
 use Rattle.cl_check.proofs.BrokenRules.{illegal}
 use Rattle.cl_observe.proofs.OneRule.{not_memory, fault_once}
 use Rattle.cl_engine.specs.declared.outcome.Outcome.{Outcome}

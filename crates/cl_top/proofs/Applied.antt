@@ -2,22 +2,11 @@
 use Rattle.std.proofs.Common.{◌≡◌, ◌⊎◌, ℕ, zero, suc, ◌<◌, inl, inr, List, [], ◌∷◌, length, take, Result, Ok, Err, refl, sym, ap, ◌∙◌, subst, arith}
 use Rattle.std.specs.Prelude.{All}
 use Rattle.std.proofs.lemmas.List.Elements.{All-head, All-tail}
-use Rattle.cl_model.specs.declared.model.SystemModel.{SystemModel}
-use Rattle.cl_model.specs.declared.refusal.Refusal.{Refusal}
-use Rattle.cl_model.specs.AreNamed.{AreNamed}
-use Rattle.cl_model.specs.Validity.{IsValid}
-use Rattle.cl_edit.specs.declared.edit.Edit.{Edit}
-use Rattle.cl_edit.specs.declared.edit_lines.ListedEdit.{ListedEdit}
-use Rattle.cl_edit.specs.declared.version.Version.{Version}
-use Rattle.cl_edit.specs.Edited.{edited, after_from, after}
-use Rattle.cl_edit.specs.Reading.{IsLineEdit, edits_of, AreEditsOf, IsBadEditLine}
-use Rattle.cl_edit.proofs.EditedValid.{edited_valid}
-use Rattle.cl_edit.proofs.NamedEdits.{edited_named}
-use Rattle.cl_edit.proofs.OneAnswer.{edits_unique, bad_lines_unique, never_both}
-use Rattle.cl_edit.proofs.SomeAnswer.{some_answer}
+use Rattle.cl_model.specs.{declared.{model.SystemModel.SystemModel, refusal.Refusal.Refusal}, AreNamed.AreNamed, Validity.IsValid}
+use Rattle.cl_edit.specs.{declared.{edit.Edit.Edit, edit_lines.ListedEdit.ListedEdit, version.Version.Version}, Edited.{edited, after_from, after}, Reading.{IsLineEdit, edits_of, AreEditsOf, IsBadEditLine}}
+use Rattle.cl_edit.proofs.{EditedValid.edited_valid, NamedEdits.edited_named, OneAnswer.{edits_unique, bad_lines_unique, never_both}, SomeAnswer.some_answer}
 use Rattle.cl_engine.specs.declared.outcome.Outcome.{Outcome}
-use Rattle.cl_top.specs.OfEdits.{edit_at, line_at, AreAllApplied, IsOneRefused, IsOfList}
-use Rattle.cl_top.specs.Inner.Applying.{OrRefused, ApplyTo}
+use Rattle.cl_top.specs.{OfEdits.{edit_at, line_at, AreAllApplied, IsOneRefused, IsOfList}, Inner.Applying.{OrRefused, ApplyTo}}
 
 -- ---- the model after edits
 

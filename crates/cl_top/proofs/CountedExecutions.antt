@@ -4,15 +4,9 @@ use Rattle.std.specs.Prelude.{sum_by, All}
 use Rattle.std.proofs.Math.Nat.{mul-le-mul_left}
 use Rattle.std.proofs.lemmas.List.Elements.{All-head, All-tail}
 use Rattle.std.proofs.lemmas.List.Sums.{sum_by-cons}
-use Rattle.cl_model.specs.declared.model.SystemModel.{SystemModel}
-use Rattle.cl_model.specs.Validity.{IsValid}
-use Rattle.cl_runs.specs.declared.job.Job.{Job}
-use Rattle.cl_runs.specs.declared.job.JobTable.{JobTable}
-use Rattle.cl_runs.specs.TaskTiming.{Timing, no_timing}
-use Rattle.cl_runs.specs.SystemOf.{system_of}
-use Rattle.cl_runs.specs.Table.{HasTimes, AreLawfulJobs, IsLawful}
-use Rattle.cl_runs.proofs.LawfulJobs.{times_length}
-use Rattle.cl_runs.proofs.ModelSystem.{system_sound}
+use Rattle.cl_model.specs.{declared.model.SystemModel.SystemModel, Validity.IsValid}
+use Rattle.cl_runs.specs.{declared.job.{Job.Job, JobTable.JobTable}, TaskTiming.{Timing, no_timing}, SystemOf.system_of, Table.{HasTimes, AreLawfulJobs, IsLawful}}
+use Rattle.cl_runs.proofs.{LawfulJobs.times_length, ModelSystem.system_sound}
 use Rattle.cl_gen.specs.Count.{arrival_count, task_executions, execution_count}
 use Rattle.cl_gen.proofs.CountedJobs.{jobs_counted}
 use Rattle.cl_trace.specs.Executions.{job_executions, executions}

@@ -1,18 +1,11 @@
 -- What the edits of a list have written of a model as it is edited so far: what is safe, and what commands write.
 use Rattle.std.proofs.Common.{◌≡◌, ℕ, zero, suc, ◌<◌, List, [], ◌∷◌, take, get_or, Result, Ok, Err, refl, ap, subst, arith}
 use Rattle.std.specs.Prelude.{All}
-use Rattle.cl_model.specs.declared.model.SystemModel.{SystemModel}
-use Rattle.cl_model.specs.declared.refusal.Refusal.{Refusal}
-use Rattle.cl_model.specs.Validity.{IsValid}
-use Rattle.cl_edit.specs.declared.edit.Edit.{Edit}
-use Rattle.cl_edit.specs.declared.edit.Edit.TheVariants.{Report}
-use Rattle.cl_edit.specs.Edited.{edited, after_from, after}
-use Rattle.cl_edit.specs.Ranges.{IsEditInRange}
+use Rattle.cl_model.specs.{declared.{model.SystemModel.SystemModel, refusal.Refusal.Refusal}, Validity.IsValid}
+use Rattle.cl_edit.specs.{declared.edit.Edit.{Edit, TheVariants.Report}, Edited.{edited, after_from, after}, Ranges.IsEditInRange}
 use Rattle.cl_edit.proofs.EditedValid.{edited_valid}
-use Rattle.cl_top.specs.Commands.Edit.{AreAccepted, IsSafePiece}
-use Rattle.cl_top.specs.Reported.{IsPieceOfCommand}
-use Rattle.cl_top.proofs.Accepted.{model_or}
-use Rattle.cl_top.proofs.Written.{safely_written, written_as_by}
+use Rattle.cl_top.specs.{Commands.Edit.{AreAccepted, IsSafePiece}, Reported.IsPieceOfCommand}
+use Rattle.cl_top.proofs.{Accepted.model_or, Written.{safely_written, written_as_by}}
 
 -- ---- the model after edits
 

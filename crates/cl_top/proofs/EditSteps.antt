@@ -4,19 +4,11 @@ use Rattle.std.specs.List.{concat}
 use Rattle.std.proofs.Math.ListN.{length-map}
 use Rattle.std.proofs.lemmas.List.{append-nil, drop-map}
 use Rattle.std.proofs.lemmas.List.Folds.{concat-append}
-use Rattle.cl_model.specs.declared.model.SystemModel.{SystemModel}
-use Rattle.cl_model.specs.declared.refusal.Refusal.{Refusal}
-use Rattle.cl_edit.specs.declared.edit.Edit.{Edit}
-use Rattle.cl_edit.specs.declared.edit.Edit.TheVariants.{Report}
-use Rattle.cl_edit.specs.declared.edit_lines.ListedEdit.{ListedEdit}
-use Rattle.cl_edit.specs.Edited.{edited}
-use Rattle.cl_edit.specs.Reading.{edits_of, AreEditsOf}
+use Rattle.cl_model.specs.declared.{model.SystemModel.SystemModel, refusal.Refusal.Refusal}
+use Rattle.cl_edit.specs.{declared.{edit.Edit.{Edit, TheVariants.Report}, edit_lines.ListedEdit.ListedEdit}, Edited.edited, Reading.{edits_of, AreEditsOf}}
 use Rattle.cl_incr.specs.Changed.{AsksForChanges}
 use Rattle.cl_engine.specs.declared.status.TheConstants.{DONE}
-use Rattle.cl_top.specs.OfEdits.{line_at}
-use Rattle.cl_top.specs.Commands.Edit.{edits_refused, behind, IsWrittenBy, AreAccepted, AreEditedTo}
-use Rattle.cl_top.specs.Inner.Edits.{IsMade, HasAsked, HaveAsked}
-use Rattle.cl_top.specs.Steps.{written_steps, AsksFor, AsksThen, AskForChanges, AreFewOfEdits}
+use Rattle.cl_top.specs.{OfEdits.line_at, Commands.Edit.{edits_refused, behind, IsWrittenBy, AreAccepted, AreEditedTo}, Inner.Edits.{IsMade, HasAsked, HaveAsked}, Steps.{written_steps, AsksFor, AsksThen, AskForChanges, AreFewOfEdits}}
 use Rattle.cl_top.proofs.Accepted.{model_or, none_accepted, one_more_accepted}
 
 -- ---- lists

@@ -5,28 +5,12 @@ use Rattle.std.specs.List.{concat, list_any}
 use Rattle.std.proofs.Math.ListN.{length-map}
 use Rattle.std.proofs.lemmas.Bool.{cases_lt}
 use Rattle.std.proofs.lemmas.List.Folds.{list_any_at}
-use Rattle.cl_model.specs.declared.model.SystemModel.{SystemModel}
-use Rattle.cl_model.specs.declared.refusal.Code.TheVariants.{E1}
-use Rattle.cl_model.specs.declared.refusal.Refusal.{Refusal}
-use Rattle.cl_model.specs.AreNamed.{AreNamed}
-use Rattle.cl_model.specs.Place.{top}
-use Rattle.cl_model.specs.Validity.{IsValid}
-use Rattle.cl_edit.specs.declared.edit.Edit.{Edit}
-use Rattle.cl_edit.specs.declared.edit.Edit.TheVariants.{Report}
-use Rattle.cl_edit.specs.declared.edit_lines.ListedEdit.{ListedEdit}
-use Rattle.cl_edit.specs.Edited.{edited, after}
-use Rattle.cl_edit.specs.Ranges.{IsEditInRange}
-use Rattle.cl_edit.specs.Reading.{edits_of, AreEditsOf, IsBadEditLine}
-use Rattle.cl_edit.proofs.EditedValid.{edited_valid}
-use Rattle.cl_edit.proofs.OneAnswer.{edits_unique, bad_lines_unique, never_both}
-use Rattle.cl_edit.proofs.SomeAnswer.{some_answer}
-use Rattle.cl_engine.specs.declared.outcome.Outcome.{Outcome}
-use Rattle.cl_engine.specs.declared.status.TheConstants.{DONE}
-use Rattle.cl_top.specs.OfEdits.{edit_at, line_at}
-use Rattle.cl_top.specs.Commands.Edit.{edits_refused, behind, IsWrittenBy, AreAccepted, EndsDone, EndsRefused, AreEditedTo, IsOfEdits, is_verify, EditTheSame}
-use Rattle.cl_top.proofs.Accepted.{none_accepted, one_more_accepted, never_accepted, made_once, pieces_once}
-use Rattle.cl_top.proofs.EditPieces.{valid_after}
-use Rattle.cl_top.proofs.Written.{some_written, one_written}
+use Rattle.cl_model.specs.{declared.{model.SystemModel.SystemModel, refusal.{Code.TheVariants.E1, Refusal.Refusal}}, AreNamed.AreNamed, Place.top, Validity.IsValid}
+use Rattle.cl_edit.specs.{declared.{edit.Edit.{Edit, TheVariants.Report}, edit_lines.ListedEdit.ListedEdit}, Edited.{edited, after}, Ranges.IsEditInRange, Reading.{edits_of, AreEditsOf, IsBadEditLine}}
+use Rattle.cl_edit.proofs.{EditedValid.edited_valid, OneAnswer.{edits_unique, bad_lines_unique, never_both}, SomeAnswer.some_answer}
+use Rattle.cl_engine.specs.declared.{outcome.Outcome.Outcome, status.TheConstants.DONE}
+use Rattle.cl_top.specs.{OfEdits.{edit_at, line_at}, Commands.Edit.{edits_refused, behind, IsWrittenBy, AreAccepted, EndsDone, EndsRefused, AreEditedTo, IsOfEdits, is_verify, EditTheSame}}
+use Rattle.cl_top.proofs.{Accepted.{none_accepted, one_more_accepted, never_accepted, made_once, pieces_once}, EditPieces.valid_after, Written.{some_written, one_written}}
 
 edit_count : (listed : List ListedEdit) → length (edits_of listed) ≡ length listed
 edit_count listed = length-map listed (λ (it : ListedEdit). it.edit)

@@ -1,18 +1,10 @@
 -- Edits that are read one at a time and made: what those so far have come to, and what is left.
 use Rattle.std.proofs.Common.{◌≡◌, ℕ, suc, ◌<◌, List, [], ◌∷◌, length, drop, Some, None, Err, refl, ap, ◌∙◌, subst, arith}
 use Rattle.std.specs.Prelude.{All}
-use Rattle.cl_model.specs.declared.model.SystemModel.{SystemModel}
-use Rattle.cl_model.specs.declared.refusal.Refusal.{Refusal}
-use Rattle.cl_edit.specs.declared.edit.Edit.TheVariants.{Report}
-use Rattle.cl_edit.specs.declared.edit_lines.ListedEdit.{ListedEdit}
-use Rattle.cl_edit.specs.Edited.{edited}
-use Rattle.cl_edit.specs.Listed.{GivesNext}
-use Rattle.cl_edit.specs.Ranges.{IsEditInRange}
-use Rattle.cl_edit.specs.Reading.{edits_of}
+use Rattle.cl_model.specs.declared.{model.SystemModel.SystemModel, refusal.Refusal.Refusal}
+use Rattle.cl_edit.specs.{declared.{edit.Edit.TheVariants.Report, edit_lines.ListedEdit.ListedEdit}, Edited.edited, Listed.GivesNext, Ranges.IsEditInRange, Reading.edits_of}
 use Rattle.cl_engine.specs.declared.status.TheConstants.{DONE}
-use Rattle.cl_top.specs.Commands.Edit.{edits_refused, behind, AreEditedTo}
-use Rattle.cl_top.specs.Inner.Edits.{IsMade, HasAsked}
-use Rattle.cl_top.specs.Steps.{AskForChanges}
+use Rattle.cl_top.specs.{Commands.Edit.{edits_refused, behind, AreEditedTo}, Inner.Edits.{IsMade, HasAsked}, Steps.AskForChanges}
 use Rattle.cl_top.proofs.EditSteps as steps_of
 use Rattle.cl_top.proofs.EditSteps.{AreEditedSoFar, none_so_far, begins_here}
 

@@ -1,16 +1,8 @@
 -- What is proved of each command by its own lemma, and that it is so of commands of each kind of files.
 use Rattle.std.proofs.Common.{◌≡◌, ℕ, List, refl, sym, ◌∙◌}
-use Rattle.cl_model.specs.declared.model.SystemModel.{SystemModel}
-use Rattle.cl_model.specs.AreNamed.{AreNamed}
-use Rattle.cl_model.specs.Validity.{IsValid}
-use Rattle.cl_engine.specs.declared.files.Files.{Files}
+use Rattle.cl_model.specs.{declared.model.SystemModel.SystemModel, AreNamed.AreNamed, Validity.IsValid}
+use Rattle.cl_engine.specs.{declared.{files.Files.Files, outcome.Outcome.Outcome, status.TheConstants.DONE}, Content.{Content, Nothing, Bytes, Model, ModelAnd, Fits}, Done.IsDone, Language.IsOfContent, Outcome.MayEnd}
 use Rattle.cl_engine.specs.declared.files.Files.TheVariants as files
-use Rattle.cl_engine.specs.declared.outcome.Outcome.{Outcome}
-use Rattle.cl_engine.specs.declared.status.TheConstants.{DONE}
-use Rattle.cl_engine.specs.Content.{Content, Nothing, Bytes, Model, ModelAnd, Fits}
-use Rattle.cl_engine.specs.Done.{IsDone}
-use Rattle.cl_engine.specs.Language.{IsOfContent}
-use Rattle.cl_engine.specs.Outcome.{MayEnd}
 use Rattle.cl_engine.proofs.Outcomes.{IsOpened, SomeOutcome}
 use Rattle.cl_top.specs.Meaning.{Meaning, of_either, on_nothing, on_bytes, on_model, on_both}
 

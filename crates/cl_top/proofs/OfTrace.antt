@@ -4,17 +4,11 @@ use Rattle.std.specs.Prelude.{Result, IfOk}
 use Rattle.std.proofs.lemmas.Result.{IfOk-weaker}
 use Rattle.cl_time.specs.declared.no_memory.NoMemory.{NoMemory}
 use Rattle.cl_model.specs.declared.model.SystemModel.{SystemModel}
-use Rattle.cl_runs.specs.Legal.{IsLegal}
-use Rattle.cl_runs.specs.Run.{Run}
-use Rattle.cl_runs.specs.SystemOf.{system_of}
+use Rattle.cl_runs.specs.{Legal.IsLegal, Run.Run, SystemOf.system_of}
 use Rattle.cl_trace.specs.Rules.{IsTraceOf}
-use Rattle.cl_engine.specs.declared.outcome.Outcome.{Outcome}
-use Rattle.cl_engine.specs.declared.status.TheConstants.{DONE}
-use Rattle.cl_top.specs.declared.commands.legal_run.LegalRun.{LegalRun}
+use Rattle.cl_engine.specs.{declared.{outcome.Outcome.Outcome, status.TheConstants.DONE}, Language.IsOfContent}
+use Rattle.cl_top.specs.{declared.commands.legal_run.LegalRun.LegalRun, Inner.LegalRuns.{NothingOf, IsCheckedAs, IsTracedAs}, OfTrace.{IsOfLegal, IsOfTrace}}
 use Rattle.cl_top.specs.declared.commands.legal_run.LegalRun.TheVariants as legal_run
-use Rattle.cl_top.specs.Inner.LegalRuns.{NothingOf, IsCheckedAs, IsTracedAs}
-use Rattle.cl_top.specs.OfTrace.{IsOfLegal, IsOfTrace}
-use Rattle.cl_engine.specs.Language.{IsOfContent}
 
 pub six_content : (found : Outcome) → found.status ≡ 6 → IsOfContent found.status
 six_content found six = inr (inl (omega (arith, six), omega (arith, six)))

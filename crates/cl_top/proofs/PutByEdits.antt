@@ -4,12 +4,8 @@ use Rattle.std.proofs.lemmas.Result.{IfOk-weaker}
 use Rattle.std.specs.Prelude.{OnOk}
 use Rattle.cl_time.specs.declared.no_memory.NoMemory.{NoMemory}
 use Rattle.cl_model.specs.declared.model.SystemModel.{SystemModel}
-use Rattle.cl_edit.specs.declared.edit.Edit.{Edit}
-use Rattle.cl_edit.specs.declared.edit.Edit.TheVariants.{Report, Tighten, Verify}
-use Rattle.cl_edit.specs.Changing.{change_of}
-use Rattle.cl_edit.specs.Edited.{with_edit}
-use Rattle.cl_top.specs.Commands.Edit.{IsWrittenBy}
-use Rattle.cl_top.specs.Steps.{written_steps}
+use Rattle.cl_edit.specs.{declared.edit.Edit.{Edit, TheVariants.{Report, Tighten, Verify}}, Changing.change_of, Edited.with_edit}
+use Rattle.cl_top.specs.{Commands.Edit.IsWrittenBy, Steps.written_steps}
 
 module _ (model : SystemModel) where
   -- behind a text stands what the edit has written

@@ -1,17 +1,10 @@
 -- A valid model has one outcome of a simulation.
 use Rattle.std.proofs.Common.{◌≡◌, ℕ, ◌≤◌, inl, inr, refl, sym, ap, ◌∙◌, arith}
 use Rattle.std.proofs.lemmas.Bool.{cases_lt}
-use Rattle.cl_model.specs.declared.model.SystemModel.{SystemModel}
-use Rattle.cl_model.specs.Validity.{IsValid}
-use Rattle.cl_runs.specs.Run.{Run}
-use Rattle.cl_runs.specs.SystemOf.{system_of}
-use Rattle.cl_runs.specs.Legal.{IsLegal}
-use Rattle.cl_runs.proofs.Filling.{legal_of_table}
-use Rattle.cl_runs.proofs.ModelSystem.{system_sound}
-use Rattle.cl_runs.proofs.OneRun.{one_run}
-use Rattle.cl_gen.specs.declared.limits.TheConstants.{MOST_EXECUTIONS}
-use Rattle.cl_gen.specs.Count.{execution_count}
-use Rattle.cl_gen.specs.Drawn.{drawn}
+use Rattle.cl_model.specs.{declared.model.SystemModel.SystemModel, Validity.IsValid}
+use Rattle.cl_runs.specs.{Run.Run, SystemOf.system_of, Legal.IsLegal}
+use Rattle.cl_runs.proofs.{Filling.legal_of_table, ModelSystem.system_sound, OneRun.one_run}
+use Rattle.cl_gen.specs.{declared.limits.TheConstants.MOST_EXECUTIONS, Count.execution_count, Drawn.drawn}
 use Rattle.cl_gen.proofs.LawfulTables.{table_lawful}
 use Rattle.cl_engine.specs.declared.outcome.Outcome.{Outcome}
 use Rattle.cl_top.specs.Commands.Simulate.{simulation_refused, traced, IsSimulated}

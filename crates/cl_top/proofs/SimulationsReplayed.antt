@@ -1,39 +1,17 @@
 -- What is simulated can be replayed.
 use Rattle.std.proofs.Common.{◌≡◌, ℕ, ◌≤◌, inl, inr, List, Some, sym, ap, subst, ◌∙◌, arith, length}
 use Rattle.std.proofs.lemmas.Bool.{cases_lt}
-use Rattle.cl_model.specs.declared.model.SystemModel.{SystemModel}
-use Rattle.cl_model.specs.AreNamed.{AreNamed}
-use Rattle.cl_model.specs.Reading.{model_of}
-use Rattle.cl_model.specs.Validity.{IsValid}
+use Rattle.cl_model.specs.{declared.model.SystemModel.SystemModel, AreNamed.AreNamed, Reading.model_of, Validity.IsValid}
 use Rattle.cl_model.proofs.ReadModels.{read_named}
-use Rattle.cl_runs.specs.Legal.{IsLegal}
-use Rattle.cl_runs.specs.Run.{Run}
-use Rattle.cl_runs.specs.SystemOf.{system_of}
-use Rattle.cl_gen.specs.declared.limits.TheConstants.{MOST_RUN_TICKS, MOST_EXECUTIONS}
-use Rattle.cl_gen.specs.Count.{execution_count}
+use Rattle.cl_runs.specs.{Legal.IsLegal, Run.Run, SystemOf.system_of}
+use Rattle.cl_gen.specs.{declared.limits.TheConstants.{MOST_RUN_TICKS, MOST_EXECUTIONS}, Count.execution_count}
 use Rattle.cl_gen.proofs.LawfulTables.{table_ticks}
 use Rattle.cl_trace.specs.Trace.{spelled}
-use Rattle.cl_trace.proofs.LegalTraces.{legal_trace}
-use Rattle.cl_trace.proofs.OneTrace.{one_run, no_bad_line}
-use Rattle.cl_trace.proofs.ShortTraces.{short_trace}
-use Rattle.cl_top.specs.declared.command.TheConstants.{TRACE_LIMIT}
-use Rattle.cl_top.specs.declared.command.Command.TheVariants.{Replay}
-use Rattle.cl_engine.specs.declared.outcome.Outcome.{Outcome}
-use Rattle.cl_engine.specs.declared.status.TheConstants.{DONE}
-use Rattle.cl_top.specs.Commands.{meaning_of, commands}
-use Rattle.cl_top.specs.Commands.Replay.{IsReplayed, IsOfReplay}
-use Rattle.cl_top.specs.Commands.Simulate.{IsSimulated, IsTraced}
-use Rattle.cl_engine.specs.Fetched.{Fetched, Bytes, told_fetch}
-use Rattle.cl_top.specs.OfTrace.{IsOfRun}
-use Rattle.cl_engine.specs.Content.{MeansModel}
-use Rattle.cl_engine.specs.Files.{model_file, second_file}
-use Rattle.cl_engine.specs.Outcome.{ValidatesTo, ReadsTo, OpensTo, HasOutcome}
-use Rattle.cl_top.specs.Simulated.{IsSimulatedFile}
-use Rattle.cl_top.proofs.CountedExecutions.{table_counted}
-use Rattle.cl_engine.proofs.Openings.{valid_read}
-use Rattle.cl_engine.proofs.Outcomes.{done_model}
-use Rattle.cl_top.proofs.AnswersOfRuns.{breaks_none}
-use Rattle.cl_engine.proofs.Tellings.{told_bytes}
+use Rattle.cl_trace.proofs.{LegalTraces.legal_trace, OneTrace.{one_run, no_bad_line}, ShortTraces.short_trace}
+use Rattle.cl_top.specs.{declared.command.{TheConstants.TRACE_LIMIT, Command.TheVariants.Replay}, Commands.{meaning_of, commands, Replay.{IsReplayed, IsOfReplay}, Simulate.{IsSimulated, IsTraced}}, OfTrace.IsOfRun, Simulated.IsSimulatedFile}
+use Rattle.cl_engine.specs.{declared.{outcome.Outcome.Outcome, status.TheConstants.DONE}, Fetched.{Fetched, Bytes, told_fetch}, Content.MeansModel, Files.{model_file, second_file}, Outcome.{ValidatesTo, ReadsTo, OpensTo, HasOutcome}}
+use Rattle.cl_top.proofs.{CountedExecutions.table_counted, AnswersOfRuns.breaks_none}
+use Rattle.cl_engine.proofs.{Openings.valid_read, Outcomes.done_model, Tellings.told_bytes}
 
 -- what comes next of a file whose bytes mean a model
 next_of : (next : SystemModel → Outcome → Type 0) (found : Outcome) (fetch : Fetched) (bytes : List ℕ) (model : SystemModel) → fetch ≡ Bytes bytes

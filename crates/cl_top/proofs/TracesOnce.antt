@@ -1,16 +1,10 @@
 -- The text of a trace has one outcome, where each legal run has.
 use Rattle.std.proofs.Common.{◌≡◌, ℕ, inl, inr, List, ◌⊎◌, refl, sym, ap, ◌∙◌, subst}
-use Rattle.cl_model.specs.AreNamed.{AreNamed}
-use Rattle.cl_model.specs.declared.model.SystemModel.{SystemModel}
-use Rattle.cl_model.specs.Validity.{IsValid}
-use Rattle.cl_runs.specs.Legal.{IsLegal}
-use Rattle.cl_runs.specs.Run.{Run}
-use Rattle.cl_runs.specs.SystemOf.{system_of}
+use Rattle.cl_model.specs.{AreNamed.AreNamed, declared.model.SystemModel.SystemModel, Validity.IsValid}
+use Rattle.cl_runs.specs.{Legal.IsLegal, Run.Run, SystemOf.system_of}
 use Rattle.cl_runs.proofs.ModelSystem.{system_sound}
 use Rattle.cl_trace.specs.Rules.{IsTraceOf}
-use Rattle.cl_trace.proofs.OneReading.{bad_once}
-use Rattle.cl_trace.proofs.OneTrace.{one_run, no_bad_line}
-use Rattle.cl_trace.proofs.SomeAnswer.{HasAnswer, some_answer}
+use Rattle.cl_trace.proofs.{OneReading.bad_once, OneTrace.{one_run, no_bad_line}, SomeAnswer.{HasAnswer, some_answer}}
 use Rattle.cl_engine.specs.declared.outcome.Outcome.{Outcome}
 use Rattle.cl_top.specs.OfTrace.{trace_refused, trace_illegal, IsOfRun, IsOfTrace}
 use Rattle.cl_top.proofs.AnswersOfRuns.{of_run_once}

@@ -3,8 +3,7 @@ use Rattle.std.proofs.Common.{◌≡◌, inl, inr, Bool, true, false, refl, sym,
 use Rattle.std.specs.Prelude.{if◌then◌else◌}
 use Rattle.cl_model.specs.declared.model.SystemModel.{SystemModel}
 use Rattle.cl_tight.specs.TightFindings.{tight_findings_of, is_verified}
-use Rattle.cl_engine.specs.declared.status.TheConstants.{DONE, NOT_VERIFIED}
-use Rattle.cl_engine.specs.Language.{IsOfContent}
+use Rattle.cl_engine.specs.{declared.status.TheConstants.{DONE, NOT_VERIFIED}, Language.IsOfContent}
 use Rattle.cl_top.specs.Verified.{verify_status}
 
 -- where the model is verified and where it isn't

@@ -6,19 +6,12 @@ use Rattle.std.specs.Option.{option_map}
 use Rattle.std.specs.Str.{bytes_eq}
 use Rattle.std.proofs.lemmas.Bool.{cond_both, leb-true, eqb-true}
 use Rattle.cl_text.specs.Decimal.{number_of}
-use Rattle.cl_model.specs.declared.limits.TheConstants.{MOST_TASKS}
+use Rattle.cl_model.specs.{declared.limits.TheConstants.MOST_TASKS, Name.is_name}
 use Rattle.cl_model.proofs.ListFacts.{both_pass}
-use Rattle.cl_engine.specs.declared.words.Bounds.{Bounds}
-use Rattle.cl_engine.specs.Files.{file_count}
-use Rattle.cl_engine.specs.Words.{number_within, both_numbers, two_numbers}
-use Rattle.cl_top.specs.declared.command.Command.{Command}
-use Rattle.cl_model.specs.Name.{is_name}
-use Rattle.cl_top.specs.declared.subject.What.{What}
-use Rattle.cl_top.specs.Subject.{what_of}
+use Rattle.cl_engine.specs.{declared.words.Bounds.Bounds, Files.file_count, Words.{number_within, both_numbers, two_numbers}}
+use Rattle.cl_top.specs.{declared.{command.Command.Command, subject.What.What}, Subject.what_of, Command.{files_read, whole, with_two_numbers, named_by, subject_of, with_subject, with_topic, by_verb, command_of}}
 use Rattle.cl_top.specs.declared.command.Command.TheVariants as command
-use Rattle.cl_help.specs.declared.topic.Topic.{Topic}
-use Rattle.cl_help.specs.Topic.{topic_of}
-use Rattle.cl_top.specs.Command.{files_read, whole, with_two_numbers, named_by, subject_of, with_subject, with_topic, by_verb, command_of}
+use Rattle.cl_help.specs.{declared.topic.Topic.Topic, Topic.topic_of}
 
 -- few tasks, and some
 abbrev pub IsFew : (tasks : ℕ) → Type 0

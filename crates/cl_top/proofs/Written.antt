@@ -1,31 +1,15 @@
 -- What each edit has written of a valid model: there is something, and but one where nothing is decided; it is safe, and
 -- what a command writes.
 use Rattle.std.proofs.Common.{◌≡◌, ℕ, ◌≤◌, Bool, false, List, [], length, Option, Some, None, Ok, refl, sym, ap, ◌∙◌, subst}
-use Rattle.cl_model.specs.declared.model.SystemModel.{SystemModel}
-use Rattle.cl_model.specs.declared.refusal.Refusal.{Refusal}
-use Rattle.cl_model.specs.Reading.{model_of}
-use Rattle.cl_model.specs.Refusals.{first}
-use Rattle.cl_model.specs.Validity.{refusal_of, IsValid}
-use Rattle.cl_edit.specs.declared.edit.Edit.{Edit}
-use Rattle.cl_edit.specs.declared.edit.Edit.TheVariants.{Range, Whole, Period, Offset, Jitter, Distances, Burst, Deadline, Swap, Priorities, Move, Kind, AddTask, DropTask, AddChain, DropChain, Requirement, DropRequirement, Report, Tighten, Verify}
-use Rattle.cl_report.specs.Report.{IsReportOf}
-use Rattle.cl_report.specs.Tight.{tight_text}
+use Rattle.cl_model.specs.{declared.{model.SystemModel.SystemModel, refusal.Refusal.Refusal}, Reading.model_of, Refusals.first, Validity.{refusal_of, IsValid}}
+use Rattle.cl_edit.specs.declared.edit.Edit.{Edit, TheVariants.{Range, Whole, Period, Offset, Jitter, Distances, Burst, Deadline, Swap, Priorities, Move, Kind, AddTask, DropTask, AddChain, DropChain, Requirement, DropRequirement, Report, Tighten, Verify}}
+use Rattle.cl_report.specs.{Report.IsReportOf, Tight.tight_text}
 use Rattle.cl_report.proofs.OneReport.{one_report}
 use Rattle.cl_verify.specs.VerifyText.{IsVerifyTextOf}
-use Rattle.cl_engine.specs.declared.files.TheConstants.{FILE_LIMIT}
-use Rattle.cl_engine.specs.declared.outcome.Outcome.{Outcome}
-use Rattle.cl_engine.specs.declared.status.TheConstants.{DONE}
-use Rattle.cl_engine.specs.Fetched.{Fetched, told_fetch}
-use Rattle.cl_engine.specs.Files.{model_file}
-use Rattle.cl_engine.specs.Content.{Model}
-use Rattle.cl_engine.specs.Outcome.{ValidatesTo, ReadsTo, OpensTo}
+use Rattle.cl_engine.specs.{declared.{files.TheConstants.FILE_LIMIT, outcome.Outcome.Outcome, status.TheConstants.DONE}, Fetched.{Fetched, told_fetch}, Files.model_file, Content.Model, Outcome.{ValidatesTo, ReadsTo, OpensTo}}
 use Rattle.cl_engine.proofs.Tellings.{told_bytes}
-use Rattle.cl_top.specs.declared.command.Command.{Command}
+use Rattle.cl_top.specs.{declared.command.Command.Command, Commands.{meaning_of, IsOutcomeOf, Edit.{IsWrittenBy, IsSafelyWritten, is_verify}}, Reported.{AnswersFilesOf, IsWrittenAsBy}, Verified.verify_status}
 use Rattle.cl_top.specs.declared.command.Command.TheVariants as command
-use Rattle.cl_top.specs.Commands.{meaning_of, IsOutcomeOf}
-use Rattle.cl_top.specs.Commands.Edit.{IsWrittenBy, IsSafelyWritten, is_verify}
-use Rattle.cl_top.specs.Reported.{AnswersFilesOf, IsWrittenAsBy}
-use Rattle.cl_top.specs.Verified.{verify_status}
 use Rattle.cl_top.proofs.SafeReport.{some_report, safe_report_of, safe_tight_report, some_verify_text}
 
 -- ---- files of a valid model

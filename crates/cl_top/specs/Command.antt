@@ -2,21 +2,13 @@
 use Rattle.std.specs.Prelude.{ℕ, Bool, List, [], ◌∷◌, length, drop, Option, Some, None, ◌+◌, ◌≤◌, ◌||◌, ◌==◌, codes, if◌then◌else◌}
 use Rattle.std.specs.Option.{option_map}
 use Rattle.std.specs.Str.{bytes_eq}
-use Rattle.cl_model.specs.Name.{is_name}
+use Rattle.cl_model.specs.{Name.is_name, declared.limits.TheConstants.MOST_TASKS}
 use Rattle.cl_gen.specs.declared.limits.TheConstants.{MOST_RUN_TICKS}
-use Rattle.cl_model.specs.declared.limits.TheConstants.{MOST_TASKS}
 use Rattle.cl_picture.specs.declared.window.TheConstants.{MOST_WINDOW}
-use Rattle.cl_engine.specs.declared.files.Files.{Files}
+use Rattle.cl_engine.specs.{declared.{files.{Files.Files, TheConstants.FILE_LIMIT}, words.Bounds.Bounds}, Files.file_count, Words.two_numbers}
 use Rattle.cl_engine.specs.declared.files.Files.TheVariants as files
-use Rattle.cl_engine.specs.declared.files.TheConstants.{FILE_LIMIT}
-use Rattle.cl_engine.specs.declared.words.Bounds.{Bounds}
-use Rattle.cl_engine.specs.Files.{file_count}
-use Rattle.cl_engine.specs.Words.{two_numbers}
-use Rattle.cl_top.specs.declared.command.Command.{Command}
+use Rattle.cl_top.specs.{declared.{command.{Command.Command, TheConstants.TRACE_LIMIT}, subject.What.What}, Subject.what_of}
 use Rattle.cl_top.specs.declared.command.Command.TheVariants as command
-use Rattle.cl_top.specs.declared.command.TheConstants.{TRACE_LIMIT}
-use Rattle.cl_top.specs.declared.subject.What.{What}
-use Rattle.cl_top.specs.Subject.{what_of}
 use Rattle.cl_help.specs.Topic.{topic_of}
 
 -- ---- the files of each

@@ -1,21 +1,13 @@
 -- What is printed of a model is safe, from the bytes of its file to the bytes of the text (docs/promises.md).
 use Rattle.std.specs.Prelude.{◌≡◌, ℕ, ◌≤◌, List, length, Ok}
-use Rattle.cl_io.specs.Shelf.{Held, MayBe}
-use Rattle.cl_io.specs.Sink.{appended}
-use Rattle.cl_model.specs.declared.model.SystemModel.{SystemModel}
-use Rattle.cl_model.specs.Reading.{model_of}
-use Rattle.cl_model.specs.Validity.{IsValid}
-use Rattle.cl_analyse.specs.declared.findings.Findings.{Findings}
-use Rattle.cl_analyse.specs.Findings.{AreFindings}
-use Rattle.cl_analyse.specs.Headline.{AreSafeFindings}
-use Rattle.cl_tight.specs.TightFindings.{tight_findings_of}
-use Rattle.cl_tight.specs.Promises.{AreSafeTightFindings, AreAsTight}
-use Rattle.cl_report.specs.Report.{report_text}
-use Rattle.cl_report.specs.Tight.{tight_text}
+use Rattle.cl_io.specs.{Shelf.{Held, MayBe}, Sink.appended}
+use Rattle.cl_model.specs.{declared.model.SystemModel.SystemModel, Reading.model_of, Validity.IsValid}
+use Rattle.cl_analyse.specs.{declared.findings.Findings.Findings, Findings.AreFindings, Headline.AreSafeFindings}
+use Rattle.cl_tight.specs.{TightFindings.tight_findings_of, Promises.{AreSafeTightFindings, AreAsTight}}
+use Rattle.cl_report.specs.{Report.report_text, Tight.tight_text}
 use Rattle.cl_cut.specs.CutAnswers.{AreSafeAnswers, AreNoWorseAnswers}
 use Rattle.cl_designs.specs.Cuts.{IsCutTextOf}
-use Rattle.cl_engine.specs.declared.files.TheConstants.{FILE_LIMIT}
-use Rattle.cl_engine.specs.Calls.{SinkCall}
+use Rattle.cl_engine.specs.{declared.files.TheConstants.FILE_LIMIT, Calls.SinkCall}
 
 -- ---- analyse
 

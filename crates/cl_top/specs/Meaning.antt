@@ -1,9 +1,7 @@
 -- What is to be known of a command, by what its files hold.
 use Rattle.std.specs.Prelude.{◌≡◌, ◌⊎◌, ℕ, ◌+◌, ◌*◌, ◌≤◌, List, length}
 use Rattle.cl_model.specs.declared.model.SystemModel.{SystemModel}
-use Rattle.cl_engine.specs.declared.outcome.Outcome.{Outcome}
-use Rattle.cl_engine.specs.Content.{Content, of_nothing, of_bytes, of_model, of_both}
-use Rattle.cl_engine.specs.Done.{IsDone}
+use Rattle.cl_engine.specs.{declared.outcome.Outcome.Outcome, Content.{Content, of_nothing, of_bytes, of_model, of_both}, Done.IsDone}
 use Rattle.cl_write.specs.Texts.{IsTextOf}
 
 pub record Meaning : Type 1 where

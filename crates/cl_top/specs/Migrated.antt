@@ -1,12 +1,7 @@
 -- A file that holds what `migrate` made of another.
 use Rattle.std.specs.Prelude.{◌≡◌, ℕ, ◌≤◌, List, length, Some}
-use Rattle.cl_top.specs.declared.command.Command.TheVariants.{Migrate}
-use Rattle.cl_engine.specs.declared.files.TheConstants.{FILE_LIMIT}
-use Rattle.cl_engine.specs.declared.outcome.Outcome.{Outcome}
-use Rattle.cl_engine.specs.declared.status.TheConstants.{DONE}
-use Rattle.cl_engine.specs.Fetched.{told_fetch}
-use Rattle.cl_engine.specs.Outcome.{HasOutcome}
-use Rattle.cl_top.specs.Commands.{commands}
+use Rattle.cl_top.specs.{declared.command.Command.TheVariants.Migrate, Commands.commands}
+use Rattle.cl_engine.specs.{declared.{files.TheConstants.FILE_LIMIT, outcome.Outcome.Outcome, status.TheConstants.DONE}, Fetched.told_fetch, Outcome.HasOutcome}
 
 -- the file of the one word holds what `migrate` comes to at the file of the other, and is within the limit of a file
 pub record IsMigratedFile (contents migrated : ℕ → List ℕ) : Type 0 where

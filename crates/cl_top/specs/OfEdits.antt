@@ -1,13 +1,8 @@
 -- Commands on a model and a list of edits that make the edits one after the other, and say what comes of the model after
 -- all of them, of the first edit that is refused, or of the first bad line.
 use Rattle.std.specs.Prelude.{◌≡◌, ◌⊎◌, ℕ, ◌<◌, List, length, map, take, slice_index_or, Ok, Err}
-use Rattle.cl_model.specs.declared.model.SystemModel.{SystemModel}
-use Rattle.cl_model.specs.declared.refusal.Refusal.{Refusal}
-use Rattle.cl_edit.specs.declared.edit.Edit.{Edit}
-use Rattle.cl_edit.specs.declared.edit.Edit.TheVariants.{Report}
-use Rattle.cl_edit.specs.declared.edit_lines.ListedEdit.{ListedEdit}
-use Rattle.cl_edit.specs.Edited.{edited, after}
-use Rattle.cl_edit.specs.Reading.{edits_of, AreEditsOf, IsBadEditLine}
+use Rattle.cl_model.specs.declared.{model.SystemModel.SystemModel, refusal.Refusal.Refusal}
+use Rattle.cl_edit.specs.{declared.{edit.Edit.{Edit, TheVariants.Report}, edit_lines.ListedEdit.ListedEdit}, Edited.{edited, after}, Reading.{edits_of, AreEditsOf, IsBadEditLine}}
 use Rattle.cl_engine.specs.declared.outcome.Outcome.{Outcome}
 
 -- the edit at a place of a list, and the number of its line

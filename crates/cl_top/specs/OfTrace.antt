@@ -3,16 +3,11 @@
 use Rattle.std.specs.Prelude.{◌≡◌, ◌⊎◌, ℕ, List, ◌++◌, codes, decimal}
 use Rattle.cl_text.specs.Line.{line}
 use Rattle.cl_model.specs.declared.model.SystemModel.{SystemModel}
-use Rattle.cl_runs.specs.Run.{Run}
-use Rattle.cl_runs.specs.SystemOf.{system_of}
-use Rattle.cl_runs.specs.Legal.{IsLegal}
-use Rattle.cl_check.specs.declared.run_fault.Rule.{Rule}
-use Rattle.cl_check.specs.declared.run_fault.RunFault.TheVariants.{Illegal}
-use Rattle.cl_check.specs.Legality.{IsFirstBroken}
+use Rattle.cl_runs.specs.{Run.Run, SystemOf.system_of, Legal.IsLegal}
+use Rattle.cl_check.specs.{declared.run_fault.{Rule.Rule, RunFault.TheVariants.Illegal}, Legality.IsFirstBroken}
 use Rattle.cl_observe.specs.Rules.{rule_words, breaker}
 use Rattle.cl_trace.specs.Rules.{IsTraceOf, IsBadTraceLine}
-use Rattle.cl_engine.specs.declared.outcome.Outcome.{Outcome}
-use Rattle.cl_engine.specs.declared.status.TheConstants.{TRACE_REFUSED}
+use Rattle.cl_engine.specs.declared.{outcome.Outcome.Outcome, status.TheConstants.TRACE_REFUSED}
 
 -- ---- a trace without a run
 

@@ -1,19 +1,12 @@
 -- What a command has printed, from the bytes of its files to the bytes of the text (docs/promises.md).
 use Rattle.std.specs.Prelude.{◌≡◌, ℕ, List, Ok}
 use Rattle.cl_io.specs.Sink.{appended}
-use Rattle.cl_model.specs.declared.model.SystemModel.{SystemModel}
-use Rattle.cl_model.specs.Reading.{model_of}
-use Rattle.cl_model.specs.Validity.{IsValid}
+use Rattle.cl_model.specs.{declared.model.SystemModel.SystemModel, Reading.model_of, Validity.IsValid}
 use Rattle.cl_runs.specs.Requirements.{IsInTime}
 use Rattle.cl_verify.specs.VerifyText.{IsVerifyTextOf}
-use Rattle.cl_engine.specs.Calls.{SinkCall}
-use Rattle.cl_engine.specs.Content.{Content, Means}
-use Rattle.cl_top.specs.declared.command.Command.{Command}
+use Rattle.cl_engine.specs.{Calls.SinkCall, Content.{Content, Means}}
+use Rattle.cl_top.specs.{declared.command.Command.Command, Command.files_read, Commands.{meaning_of, Edit.StopsSafely}, Meaning.{promises, promises_of_both}}
 use Rattle.cl_top.specs.declared.command.Command.TheVariants as command
-use Rattle.cl_top.specs.Command.{files_read}
-use Rattle.cl_top.specs.Commands.{meaning_of}
-use Rattle.cl_top.specs.Commands.Edit.{StopsSafely}
-use Rattle.cl_top.specs.Meaning.{promises, promises_of_both}
 
 -- Files of these bytes hold something, this is promised of the text for that, and the text was written, and nothing else.
 pub record HasPrinted {K : Type 0} (sink : SinkCall K) (asked : Command) (contents : ℕ → List ℕ) (promise : Content → (text : List ℕ) → Type 0) : Type 0 where

@@ -1,18 +1,10 @@
 -- What the edits of a list have written is what commands write for a file of the model as it is edited so far.
 use Rattle.std.specs.Prelude.{◌≡◌, ℕ, ◌≤◌, List, [], length, take, slice_index_or, Ok, Some}
-use Rattle.cl_model.specs.declared.model.SystemModel.{SystemModel}
-use Rattle.cl_model.specs.Reading.{model_of}
-use Rattle.cl_edit.specs.declared.edit.Edit.{Edit}
-use Rattle.cl_edit.specs.declared.edit.Edit.TheVariants.{Report, Tighten, Verify}
-use Rattle.cl_edit.specs.Edited.{after}
-use Rattle.cl_top.specs.declared.command.Command.{Command}
+use Rattle.cl_model.specs.{declared.model.SystemModel.SystemModel, Reading.model_of}
+use Rattle.cl_edit.specs.{declared.edit.Edit.{Edit, TheVariants.{Report, Tighten, Verify}}, Edited.after}
+use Rattle.cl_top.specs.{declared.command.Command.Command, Commands.commands, Verified.verify_status}
 use Rattle.cl_top.specs.declared.command.Command.TheVariants as command
-use Rattle.cl_engine.specs.declared.files.TheConstants.{FILE_LIMIT}
-use Rattle.cl_engine.specs.declared.status.TheConstants.{DONE}
-use Rattle.cl_engine.specs.Fetched.{told_fetch}
-use Rattle.cl_engine.specs.Outcome.{HasOutcome}
-use Rattle.cl_top.specs.Commands.{commands}
-use Rattle.cl_top.specs.Verified.{verify_status}
+use Rattle.cl_engine.specs.{declared.{files.TheConstants.FILE_LIMIT, status.TheConstants.DONE}, Fetched.told_fetch, Outcome.HasOutcome}
 
 -- the command ends with this status and this text for each file of the model that is within the limit of a file
 abbrev pub AnswersFilesOf : Command → SystemModel → (status : ℕ) (text : List ℕ) → Type 0

@@ -1,12 +1,8 @@
 -- A trace file that holds what `simulate` made of a model file.
 use Rattle.std.specs.Prelude.{◌≡◌, ℕ, ◌≤◌, List, Some}
 use Rattle.cl_gen.specs.declared.limits.TheConstants.{MOST_RUN_TICKS}
-use Rattle.cl_top.specs.declared.command.Command.TheVariants.{Simulate}
-use Rattle.cl_engine.specs.declared.outcome.Outcome.{Outcome}
-use Rattle.cl_engine.specs.declared.status.TheConstants.{DONE}
-use Rattle.cl_engine.specs.Fetched.{told_fetch}
-use Rattle.cl_engine.specs.Outcome.{HasOutcome}
-use Rattle.cl_top.specs.Commands.{commands}
+use Rattle.cl_top.specs.{declared.command.Command.TheVariants.Simulate, Commands.commands}
+use Rattle.cl_engine.specs.{declared.{outcome.Outcome.Outcome, status.TheConstants.DONE}, Fetched.told_fetch, Outcome.HasOutcome}
 
 -- the file of the second word holds the trace to which `simulate` comes at the file of the first
 pub record IsSimulatedFile (contents : ℕ → List ℕ) (ticks seed : ℕ) : Type 0 where

@@ -1,12 +1,7 @@
 -- How many analysing steps a list of edits takes.
 use Rattle.std.specs.Prelude.{◌⊎◌, ℕ, ◌+◌, ◌≤◌, List, [], ◌∷◌, Result, Ok, Err}
-use Rattle.cl_model.specs.declared.model.SystemModel.{SystemModel}
-use Rattle.cl_model.specs.declared.refusal.Refusal.{Refusal}
-use Rattle.cl_edit.specs.declared.edit.Edit.{Edit}
-use Rattle.cl_edit.specs.declared.edit.Edit.TheVariants.{Tighten, Verify}
-use Rattle.cl_edit.specs.declared.edit_lines.ListedEdit.{ListedEdit}
-use Rattle.cl_edit.specs.Edited.{edited}
-use Rattle.cl_edit.specs.Reading.{edits_of, AreEditsOf}
+use Rattle.cl_model.specs.declared.{model.SystemModel.SystemModel, refusal.Refusal.Refusal}
+use Rattle.cl_edit.specs.{declared.{edit.Edit.{Edit, TheVariants.{Tighten, Verify}}, edit_lines.ListedEdit.ListedEdit}, Edited.edited, Reading.{edits_of, AreEditsOf}}
 use Rattle.cl_incr.specs.Changed.{AsksForChanges}
 use Rattle.cl_top.specs.Meaning.{model_steps, task_steps}
 

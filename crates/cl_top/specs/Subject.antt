@@ -1,12 +1,8 @@
 -- What is asked of, and by which word.
 use Rattle.std.specs.Prelude.{ℕ, List, codes, Option, Some, None, if◌then◌else◌}
 use Rattle.std.specs.Str.{bytes_eq}
-use Rattle.cl_model.specs.declared.model.SystemModel.{SystemModel}
-use Rattle.cl_model.specs.declared.chain.LengthKind.TheVariants.{Reaction, Age, Reduced}
-use Rattle.cl_model.specs.declared.chain.RequirementKind.TheVariants.{Length, Delay}
-use Rattle.cl_model.specs.Named.{task_names, chain_names, requirement_names}
-use Rattle.cl_top.specs.declared.subject.What.{What}
-use Rattle.cl_top.specs.declared.subject.What.TheVariants.{Response, Bound, Requirement}
+use Rattle.cl_model.specs.{declared.{model.SystemModel.SystemModel, chain.{LengthKind.TheVariants.{Reaction, Age, Reduced}, RequirementKind.TheVariants.{Length, Delay}}}, Named.{task_names, chain_names, requirement_names}}
+use Rattle.cl_top.specs.declared.subject.What.{What, TheVariants.{Response, Bound, Requirement}}
 
 -- what a word asks of
 unfoldable pub what_of : (word : List ℕ) → Option What

@@ -4,9 +4,7 @@ use Rattle.cl_model.specs.declared.model.SystemModel.{SystemModel}
 use Rattle.cl_runs.specs.Requirements.{IsInTime}
 use Rattle.cl_tight.specs.TightFindings.{tight_findings_of, is_verified}
 use Rattle.cl_verify.specs.VerifyText.{IsVerifyTextOf}
-use Rattle.cl_engine.specs.declared.outcome.Outcome.{Outcome}
-use Rattle.cl_engine.specs.Done.{HasStatusAndText}
-use Rattle.cl_engine.specs.declared.status.TheConstants.{DONE, NOT_VERIFIED}
+use Rattle.cl_engine.specs.{declared.{outcome.Outcome.Outcome, status.TheConstants.{DONE, NOT_VERIFIED}}, Done.HasStatusAndText}
 
 -- the status says whether the model is verified: no task is late by phases, and each requirement is met by its bound
 unfoldable pub verify_status : SystemModel → ℕ

@@ -1,8 +1,7 @@
 //! The outcome of each command, once its files are open: one source file for each command.
 ghost use Rattle.std.specs.Prelude.{IfOk};
 ghost use Rattle.cl_engine.specs.Content.{content_of, Fits};
-ghost use Rattle.cl_top.specs.Command.{files_read, AsksForFew};
-ghost use Rattle.cl_top.specs.Commands.{commands, IsOutcomeOf, TakesStepsOf};
+ghost use Rattle.cl_top.specs.{Command.{files_read, AsksForFew}, Commands.{commands, IsOutcomeOf, TakesStepsOf}};
 
 mod analyse;
 mod apply;

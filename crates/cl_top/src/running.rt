@@ -1,17 +1,7 @@
 ghost use Rattle.std.specs.Prelude.{◌≡◌, ℕ, List, Some};
 ghost use Rattle.cl_io.specs.Shelf.{Content};
-ghost use Rattle.cl_engine.specs.Calls.{shelf_call, sink_call};
-ghost use Rattle.cl_engine.specs.Fetched.{TellsFiles};
-ghost use Rattle.cl_engine.specs.Files.{word};
-ghost use Rattle.cl_engine.specs.SoundCall.{IsSoundCall};
-ghost use Rattle.cl_engine.specs.Language.{files_of};
-ghost use Rattle.cl_engine.specs.Run.{ComesTo, Ends};
-ghost use Rattle.cl_engine.specs.declared.status.TheConstants.{DONE, EDITS_REFUSED, NOT_VERIFIED};
-ghost use Rattle.cl_top.specs.declared.command.Command.{Command as AnyCommand};
-ghost use Rattle.cl_top.specs.Command.{command_of};
-ghost use Rattle.cl_top.specs.Commands.{commands};
-ghost use Rattle.cl_top.specs.Headline.{HasReported, HasReportedSome};
-ghost use Rattle.cl_top.specs.Printed.{HasPrintedSafe, HasStoppedSafely, HasDecided, ProvesInTime};
+ghost use Rattle.cl_engine.specs.{Calls.{shelf_call, sink_call}, Fetched.TellsFiles, Files.word, SoundCall.IsSoundCall, Language.files_of, Run.{ComesTo, Ends}, declared.status.TheConstants.{DONE, EDITS_REFUSED, NOT_VERIFIED}};
+ghost use Rattle.cl_top.specs.{declared.command.Command.Command as AnyCommand, Command.command_of, Commands.commands, Headline.{HasReported, HasReportedSome}, Printed.{HasPrintedSafe, HasStoppedSafely, HasDecided, ProvesInTime}};
 
 use crate::Command;
 use cl_io::{Shelf, Sink, Words};

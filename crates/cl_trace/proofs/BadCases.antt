@@ -5,8 +5,7 @@ use Rattle.std.specs.List.{All}
 use Rattle.std.proofs.lemmas.List.Elements.{All-nil, All-cons}
 use Rattle.cl_model.specs.declared.model.SystemModel.{SystemModel}
 use Rattle.cl_text.specs.Standing.{NoneStands}
-use Rattle.cl_trace.specs.Trace.{Item, Title, Ticks, JobOf, Runs, End, item_text, text_of}
-use Rattle.cl_trace.specs.Rules.{IsOpen, IsAboveJob, IsAboveRun, MayStand, AreGoodAfter, EndsEarly, EndsLate, HasOtherLine, IsBadTraceLine}
+use Rattle.cl_trace.specs.{Trace.{Item, Title, Ticks, JobOf, Runs, End, item_text, text_of}, Rules.{IsOpen, IsAboveJob, IsAboveRun, MayStand, AreGoodAfter, EndsEarly, EndsLate, HasOtherLine, IsBadTraceLine}}
 use Rattle.cl_trace.proofs.JobLines.{item_longer}
 
 -- lines are good up to one of that number, no line that may stand there does, and where nothing is left the text isn't

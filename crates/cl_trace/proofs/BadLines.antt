@@ -5,25 +5,14 @@ use Rattle.std.proofs.lemmas.Bool.{cases_lt}
 use Rattle.std.proofs.lemmas.Grind.{flat_map-append}
 use Rattle.std.proofs.lemmas.List.{append-nil}
 use Rattle.std.proofs.lemmas.List.Elements.{All-nil, All-cons, All-append, All-head}
-use Rattle.cl_model.specs.declared.model.SystemModel.{SystemModel}
-use Rattle.cl_model.specs.Validity.{IsValid}
+use Rattle.cl_model.specs.{declared.model.SystemModel.SystemModel, Validity.IsValid}
 use Rattle.cl_model.proofs.NamesKnown.{core_within}
-use Rattle.cl_runs.specs.declared.job.Job.{Job}
-use Rattle.cl_runs.specs.Run.{Run}
+use Rattle.cl_runs.specs.{declared.job.Job.Job, Run.Run}
 use Rattle.cl_run_data.specs.declared.stretches.Stretch.{Stretch}
-use Rattle.cl_trace.specs.declared.limits.TheConstants.{MOST_TRACE_TICKS}
-use Rattle.cl_trace.specs.Stretches.{stretches_of}
-use Rattle.cl_trace.specs.Trace.{Item, Title, Ticks, JobOf, Runs, End, item_text, text_of, stretch_item, stretch_items, core_items}
-use Rattle.cl_trace.specs.Rules.{HasHead, IsOpen, IsAboveJob, IsAboveRun, IsJobLine, IsRunLine, MayStand}
-use Rattle.cl_trace.specs.Inner.Bodies.{IsBody, IsReadSoFar, jobs_in, items_in}
-use Rattle.cl_trace.specs.Inner.Pieces.{AreTasksNamed, newlines}
-use Rattle.cl_trace.proofs.BadCases.{IsStuckAt}
-use Rattle.cl_trace.proofs.CoreLines.{all_left}
-use Rattle.cl_trace.proofs.GoodLines.{head_items, good_append}
-use Rattle.cl_trace.proofs.JobLines.{past_last, text_more}
-use Rattle.cl_trace.proofs.LineCounts.{ends_of_good, number_of_left, same_ticks, newlines_append, title_end, last_end, ticks_end}
-use Rattle.cl_trace.proofs.Readings.{table_items, entry_items, read_items, read_parts, read_good}
-use Rattle.cl_trace.proofs.RunLines.{all_right}
+use Rattle.cl_trace.specs.{declared.limits.TheConstants.MOST_TRACE_TICKS, Stretches.stretches_of, Trace.{Item, Title, Ticks, JobOf, Runs, End, item_text, text_of, stretch_item, stretch_items, core_items}, Rules.{HasHead, IsOpen, IsAboveJob, IsAboveRun, IsJobLine, IsRunLine, MayStand}}
+use Rattle.cl_trace.specs.Inner.{Bodies.{IsBody, IsReadSoFar, jobs_in, items_in}, Pieces.{AreTasksNamed, newlines}}
+use Rattle.cl_trace.proofs.{BadCases.IsStuckAt, CoreLines.all_left, GoodLines.{head_items, good_append}, JobLines.{past_last, text_more}, LineCounts.{ends_of_good, number_of_left, same_ticks, newlines_append, title_end, last_end, ticks_end}, Readings.{table_items, entry_items, read_items}}
+use Rattle.cl_trace.proofs.{Readings.{read_parts, read_good}, RunLines.all_right}
 
 -- ---- lists of job lines and of run lines
 

@@ -4,20 +4,11 @@ use Rattle.std.specs.List.{All, flat_map, range_with_len}
 use Rattle.std.proofs.lemmas.Bool.{cases_lt}
 use Rattle.std.proofs.lemmas.List.{get_or-set_other}
 use Rattle.std.proofs.lemmas.List.Elements.{All-nil, All-cons, All-append, All-head, All-tail}
-use Rattle.cl_model.specs.declared.model.SystemModel.{SystemModel}
-use Rattle.cl_model.specs.ByNumber.{core_of}
-use Rattle.cl_runs.specs.Run.{Run, core_entries, IsEntryOf}
-use Rattle.cl_runs.specs.SystemOf.{system_of}
+use Rattle.cl_model.specs.{declared.model.SystemModel.SystemModel, ByNumber.core_of}
+use Rattle.cl_runs.specs.{Run.{Run, core_entries, IsEntryOf}, SystemOf.system_of}
 use Rattle.cl_run_data.specs.declared.stretches.Stretch.{Stretch}
-use Rattle.cl_trace.specs.Stretches.{stretches_of}
-use Rattle.cl_trace.specs.Trace.{Item, Title, Ticks, JobOf, Runs, End, text_of, stretch_item, stretch_items, core_items}
-use Rattle.cl_trace.specs.Rules.{IsAboveRun}
-use Rattle.cl_trace.specs.Inner.Bodies.{AreAllEntriesOf, AreCores, IsRunWith}
-use Rattle.cl_trace.proofs.JobLines.{text_all, items_same}
-use Rattle.cl_trace.proofs.LongestStretches.{own_stretches}
-use Rattle.cl_trace.proofs.Puts.{items_more}
-use Rattle.cl_trace.proofs.RunLines.{all_right, core_is}
-use Rattle.cl_trace.proofs.StretchTasks.{of_stretches}
+use Rattle.cl_trace.specs.{Stretches.stretches_of, Trace.{Item, Title, Ticks, JobOf, Runs, End, text_of, stretch_item, stretch_items, core_items}, Rules.IsAboveRun, Inner.Bodies.{AreAllEntriesOf, AreCores, IsRunWith}}
+use Rattle.cl_trace.proofs.{JobLines.{text_all, items_same}, LongestStretches.own_stretches, Puts.items_more, RunLines.{all_right, core_is}, StretchTasks.of_stretches}
 
 -- a line is a run line of a core
 abbrev pub IsOfCore : SystemModel → (core : ℕ) → Item → Type 0

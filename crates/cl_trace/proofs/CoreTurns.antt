@@ -4,16 +4,10 @@ use Rattle.std.specs.Option.{option_eq}
 use Rattle.std.proofs.lemmas.List.{length-append}
 use Rattle.cl_run_data.specs.declared.stretches.Stretch.{Stretch}
 use Rattle.cl_run_data.proofs.StretchFacts.{who_same, who_other}
-use Rattle.cl_runs.specs.TaskTiming.{System, timing_at, IsSound}
-use Rattle.cl_runs.specs.Run.{Run, jobs_of, core_entries, entry_at, executed, IsEntryOf}
-use Rattle.cl_runs.specs.Legal.{IsLegal}
-use Rattle.cl_runs.proofs.Climbing.{climb_mono}
-use Rattle.cl_runs.proofs.Executed.{executed_climbs, executed_more}
-use Rattle.cl_trace.specs.Stretches.{before_stretches, stretches_from, stretches_of}
-use Rattle.cl_trace.specs.Trace.{stretch_item, stretch_items, core_items}
-use Rattle.cl_trace.proofs.JobCounts.{begun_jobs, done_jobs, begun_most, done_most, begun_mono, done_mono}
-use Rattle.cl_trace.proofs.Switches.{Turns, begins, follows, turns_first, turns_later}
-use Rattle.cl_trace.proofs.Totals.{total, total_mono, total_more, of_key, of_key_is, of_key_mono}
+use Rattle.cl_runs.specs.{TaskTiming.{System, timing_at, IsSound}, Run.{Run, jobs_of, core_entries, entry_at, executed, IsEntryOf}, Legal.IsLegal}
+use Rattle.cl_runs.proofs.{Climbing.climb_mono, Executed.{executed_climbs, executed_more}}
+use Rattle.cl_trace.specs.{Stretches.{before_stretches, stretches_from, stretches_of}, Trace.{stretch_item, stretch_items, core_items}}
+use Rattle.cl_trace.proofs.{JobCounts.{begun_jobs, done_jobs, begun_most, done_most, begun_mono, done_mono}, Switches.{Turns, begins, follows, turns_first, turns_later}, Totals.{total, total_mono, total_more, of_key, of_key_is, of_key_mono}}
 
 -- ---- lines of stretches
 

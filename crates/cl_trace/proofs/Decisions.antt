@@ -3,15 +3,10 @@ use Rattle.std.proofs.Common.{◌≡◌, ◌≢◌, ℕ, zero, suc, ◌+◌, ◌
 use Rattle.std.specs.List.{All}
 use Rattle.std.proofs.lemmas.Bool.{cases_lt, cases_eq}
 use Rattle.std.proofs.lemmas.List.Elements.{All-nil, All-cons, All-head, All-tail}
-use Rattle.cl_model.specs.declared.model.SystemModel.{SystemModel}
-use Rattle.cl_model.specs.ByNumber.{task_at, core_of}
+use Rattle.cl_model.specs.{declared.model.SystemModel.SystemModel, ByNumber.{task_at, core_of}}
 use Rattle.cl_runs.specs.declared.job.Job.{Job}
-use Rattle.cl_runs.proofs.Executed.{cases_entry}
-use Rattle.cl_runs.proofs.FirstBelow.{both_or_not}
-use Rattle.cl_trace.specs.declared.limits.TheConstants.{MOST_TRACE_NUMBER}
-use Rattle.cl_trace.specs.Trace.{JobOf, Runs, item_text}
-use Rattle.cl_trace.specs.Rules.{IsJobOf}
-use Rattle.cl_trace.specs.Inner.Bodies.{IsStretchWithin, FitsEntries}
+use Rattle.cl_runs.proofs.{Executed.cases_entry, FirstBelow.both_or_not}
+use Rattle.cl_trace.specs.{declared.limits.TheConstants.MOST_TRACE_NUMBER, Trace.{JobOf, Runs, item_text}, Rules.IsJobOf, Inner.Bodies.{IsStretchWithin, FitsEntries}}
 
 -- something holds, or it doesn't
 abbrev pub Decided : Type 0 → Type 0

@@ -3,25 +3,14 @@ use Rattle.std.proofs.Common.{◌≡◌, ◌≢◌, ℕ, zero, suc, ◌+◌, ◌
 use Rattle.std.specs.List.{All, flat_map, range_with_len}
 use Rattle.std.proofs.lemmas.List.{append-nil}
 use Rattle.std.proofs.lemmas.List.Elements.{All-nil, All-cons, All-append, All-head, All-tail}
-use Rattle.cl_model.specs.declared.model.SystemModel.{SystemModel}
-use Rattle.cl_model.specs.ByNumber.{core_of}
-use Rattle.cl_runs.specs.declared.job.Job.{Job}
-use Rattle.cl_runs.specs.Run.{Run, core_entries, IsEntryOf}
-use Rattle.cl_runs.specs.SystemOf.{system_of}
+use Rattle.cl_model.specs.{declared.model.SystemModel.SystemModel, ByNumber.core_of}
+use Rattle.cl_runs.specs.{declared.job.Job.Job, Run.{Run, core_entries, IsEntryOf}, SystemOf.system_of}
 use Rattle.cl_runs.proofs.ModelSystem.{count_is}
-use Rattle.cl_run_data.specs.declared.stretches.Stretch.{Stretch}
-use Rattle.cl_run_data.specs.Stretches.{AreLongest}
-use Rattle.cl_run_data.specs.Inner.StretchPlaces.{end_from}
-use Rattle.cl_run_data.proofs.OneStretchList.{end_least}
-use Rattle.cl_run_data.proofs.StretchFacts.{head_of, tail_of, length-entries}
-use Rattle.cl_trace.specs.declared.limits.TheConstants.{MOST_TRACE_TICKS}
-use Rattle.cl_trace.specs.Stretches.{stretches_of}
-use Rattle.cl_trace.specs.Trace.{Item, Title, Ticks, JobOf, Runs, End, stretch_item, stretch_items, core_items}
-use Rattle.cl_trace.specs.Rules.{HasHead, IsOpen, IsAboveJob, IsAboveRun, IsJobOf, IsRunLine, AreGoodAfter}
-use Rattle.cl_trace.specs.Inner.Bodies.{jobs_in, items_in}
-use Rattle.cl_trace.proofs.LongestStretches.{own_stretches}
-use Rattle.cl_trace.proofs.RunLines.{core_is}
-use Rattle.cl_trace.proofs.StretchTasks.{of_stretches}
+use Rattle.cl_run_data.specs.{declared.stretches.Stretch.Stretch, Stretches.AreLongest, Inner.StretchPlaces.end_from}
+use Rattle.cl_run_data.proofs.{OneStretchList.end_least, StretchFacts.{head_of, tail_of, length-entries}}
+use Rattle.cl_trace.specs.{declared.limits.TheConstants.MOST_TRACE_TICKS, Stretches.stretches_of, Trace.{Item, Title, Ticks, JobOf, Runs, End, stretch_item, stretch_items, core_items}, Rules.{HasHead, IsOpen, IsAboveJob, IsAboveRun, IsJobOf, IsRunLine, AreGoodAfter}, Inner.Bodies.jobs_in}
+use Rattle.cl_trace.specs.Inner.Bodies.{items_in}
+use Rattle.cl_trace.proofs.{LongestStretches.own_stretches, RunLines.core_is, StretchTasks.of_stretches}
 
 -- good lines, and more of them
 pub good_append : (model : SystemModel) (before xs ys : List Item) → AreGoodAfter model before xs → AreGoodAfter model (before ++ xs) ys → AreGoodAfter model before (xs ++ ys)

@@ -6,13 +6,9 @@ use Rattle.std.proofs.lemmas.List.{append-nil, map-append, get_or_append_left}
 use Rattle.std.proofs.lemmas.List.Elements.{All-nil, All-cons, All-append}
 use Rattle.std.proofs.lemmas.Grind.{flat_map-append}
 use Rattle.std.proofs.Math.Seq.{get_or-append_seam}
-use Rattle.cl_model.specs.declared.model.SystemModel.{SystemModel}
-use Rattle.cl_model.specs.Name.{IsName}
-use Rattle.cl_model.specs.ByNumber.{task_at}
+use Rattle.cl_model.specs.{declared.model.SystemModel.SystemModel, Name.IsName, ByNumber.task_at}
 use Rattle.cl_runs.specs.declared.job.Job.{Job}
-use Rattle.cl_trace.specs.Trace.{Item, JobOf, item_text, item_words, text_of}
-use Rattle.cl_trace.specs.Rules.{IsJobOf}
-use Rattle.cl_trace.specs.Inner.Bodies.{AreJobsOf, AreJobLists, jobs_in, items_in}
+use Rattle.cl_trace.specs.{Trace.{Item, JobOf, item_text, item_words, text_of}, Rules.IsJobOf, Inner.Bodies.{AreJobsOf, AreJobLists, jobs_in, items_in}}
 use Rattle.cl_trace.proofs.Puts.{items_more}
 
 -- a line takes a byte at least

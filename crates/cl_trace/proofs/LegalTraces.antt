@@ -4,27 +4,12 @@ use Rattle.std.specs.List.{All, AllZip}
 use Rattle.std.proofs.lemmas.Bool.{cases_lt}
 use Rattle.std.proofs.lemmas.List.{get_or_default}
 use Rattle.std.proofs.lemmas.List.Elements.{All-nil, All-cons, All-head, All-tail}
-use Rattle.cl_model.specs.declared.limits.TheConstants.{MOST_TICKS}
-use Rattle.cl_model.specs.declared.model.SystemModel.{SystemModel}
-use Rattle.cl_model.specs.declared.stimulus.StimulusKind.{StimulusKind}
-use Rattle.cl_model.specs.declared.stimulus.StimulusKind.TheVariants.{Periodic, Sporadic, Burst}
-use Rattle.cl_model.specs.declared.task.RunnableDef.{RunnableDef}
-use Rattle.cl_model.specs.ByNumber.{task_at, stimulus_of}
-use Rattle.cl_model.specs.Ranges.{IsKindInRange, IsRunnableInRange}
-use Rattle.cl_model.specs.Timing.{greatest_jitter}
-use Rattle.cl_model.specs.Validity.{IsValid}
+use Rattle.cl_model.specs.{declared.{limits.TheConstants.MOST_TICKS, model.SystemModel.SystemModel, stimulus.StimulusKind.{StimulusKind, TheVariants.{Periodic, Sporadic, Burst}}, task.RunnableDef.RunnableDef}, ByNumber.{task_at, stimulus_of}, Ranges.{IsKindInRange, IsRunnableInRange}}
+use Rattle.cl_model.specs.{Timing.greatest_jitter, Validity.IsValid}
 use Rattle.cl_model.proofs.ValidTasks.{kind_in_range, runnables_in_range}
-use Rattle.cl_runs.specs.declared.job.Job.{Job}
-use Rattle.cl_runs.specs.Table.{no_job, job_at, LiesIn}
-use Rattle.cl_runs.specs.TaskTiming.{Timing, timing_at}
-use Rattle.cl_runs.specs.Run.{Run, jobs_of}
-use Rattle.cl_runs.specs.Legal.{IsLegal}
-use Rattle.cl_runs.specs.SystemOf.{system_of, range_of}
-use Rattle.cl_runs.proofs.ArrivalFacts.{arrives_below, released_within}
-use Rattle.cl_runs.proofs.ModelSystem.{count_is, timing_is}
-use Rattle.cl_trace.specs.declared.limits.TheConstants.{MOST_TRACE_TICKS, MOST_TRACE_NUMBER}
-use Rattle.cl_trace.specs.Trace.{spelled}
-use Rattle.cl_trace.specs.Rules.{IsJobInRange, IsWithinLimits, IsTraceOf}
+use Rattle.cl_runs.specs.{declared.job.Job.Job, Table.{no_job, job_at, LiesIn}, TaskTiming.{Timing, timing_at}, Run.{Run, jobs_of}, Legal.IsLegal, SystemOf.{system_of, range_of}}
+use Rattle.cl_runs.proofs.{ArrivalFacts.{arrives_below, released_within}, ModelSystem.{count_is, timing_is}}
+use Rattle.cl_trace.specs.{declared.limits.TheConstants.{MOST_TRACE_TICKS, MOST_TRACE_NUMBER}, Trace.spelled, Rules.{IsJobInRange, IsWithinLimits, IsTraceOf}}
 
 pub jitter_small : (kind : StimulusKind) → IsKindInRange kind → greatest_jitter kind ≤ MOST_TICKS
 jitter_small (Periodic period offset jitter) is = is.2

@@ -6,16 +6,11 @@ use Rattle.std.proofs.lemmas.Bool.Decides.{nat_tests}
 use Rattle.std.proofs.lemmas.List.{take_at}
 use Rattle.std.proofs.lemmas.List.Elements.{All-head, All-tail, All-nil, All-cons}
 use Rattle.std.proofs.lemmas.List.Sums.{sum_by-append}
-use Rattle.cl_model.specs.declared.model.SystemModel.{SystemModel}
-use Rattle.cl_model.specs.ByNumber.{task_at}
+use Rattle.cl_model.specs.{declared.model.SystemModel.SystemModel, ByNumber.task_at}
 use Rattle.cl_text.specs.Line.{is_graphic}
 use Rattle.cl_text.proofs.LineLemmas.{graphic_decimal}
-use Rattle.cl_trace.specs.declared.limits.TheConstants.{MOST_TRACE_TICKS, MOST_TRACE_NUMBER}
-use Rattle.cl_trace.specs.Trace.{Item, Title, Ticks, JobOf, Runs, End, numbers, item_words, item_text, text_of}
-use Rattle.cl_trace.specs.Rules.{HasHead, MayStand, AreGoodAfter}
-use Rattle.cl_trace.specs.Inner.Pieces.{AreTasksNamed, newlines}
-use Rattle.cl_trace.proofs.PieceFacts.{graphic_name}
-use Rattle.cl_trace.proofs.GoodLines.{head_stays}
+use Rattle.cl_trace.specs.{declared.limits.TheConstants.{MOST_TRACE_TICKS, MOST_TRACE_NUMBER}, Trace.{Item, Title, Ticks, JobOf, Runs, End, numbers, item_words, item_text, text_of}, Rules.{HasHead, MayStand, AreGoodAfter}, Inner.Pieces.{AreTasksNamed, newlines}}
+use Rattle.cl_trace.proofs.{PieceFacts.graphic_name, GoodLines.head_stays}
 
 -- whether a byte ends a line, as a number
 abbrev count : ℕ → ℕ

@@ -5,9 +5,7 @@ use Rattle.std.proofs.lemmas.List.{append-nil, append_cancel_left}
 use Rattle.std.proofs.lemmas.List.Elements.{All-nil, All-cons, All-head, All-tail, All-append}
 use Rattle.std.proofs.lemmas.Grind.{flat_map-append}
 use Rattle.cl_text.specs.Line.{is_graphic, line}
-use Rattle.cl_trace.specs.declared.limits.TheConstants.{MOST_TRACE_NUMBER}
-use Rattle.cl_trace.specs.Trace.{number_text, numbers}
-use Rattle.cl_trace.specs.Inner.Pieces.{AreTimes}
+use Rattle.cl_trace.specs.{declared.limits.TheConstants.MOST_TRACE_NUMBER, Trace.{number_text, numbers}, Inner.Pieces.AreTimes}
 
 -- a number before more of them
 pub numbers_first : (n : ℕ) (more tail : List ℕ) → numbers (n ∷ more) ++ tail ≡ number_text n ++ (numbers more ++ tail)

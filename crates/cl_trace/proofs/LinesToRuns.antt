@@ -6,15 +6,10 @@ use Rattle.std.proofs.Math.Seq.{get_or-append_right}
 use Rattle.std.proofs.lemmas.Bool.{cases_lt, cases_eq}
 use Rattle.std.proofs.lemmas.Bool.Decides.{nat_tests}
 use Rattle.std.proofs.lemmas.List.{append-nil, get_or_append_left, get_or-replicate, length-replicate, same_lists, get_or_default}
-use Rattle.cl_runs.specs.declared.job.Job.{Job}
-use Rattle.cl_runs.specs.TaskTiming.{System}
-use Rattle.cl_runs.specs.Run.{Run, core_entries, entry_at, IsEntryOf, IsInForm}
-use Rattle.cl_run_data.specs.declared.stretches.Stretch.{Stretch}
-use Rattle.cl_run_data.specs.Stretches.{entries_from, AreLongest, AreStretchesOf}
+use Rattle.cl_runs.specs.{declared.job.Job.Job, TaskTiming.System, Run.{Run, core_entries, entry_at, IsEntryOf, IsInForm}}
+use Rattle.cl_run_data.specs.{declared.stretches.Stretch.Stretch, Stretches.{entries_from, AreLongest, AreStretchesOf}}
 use Rattle.cl_run_data.proofs.StretchFacts.{head_of, tail_of}
-use Rattle.cl_trace.specs.Stretches.{stretches_of}
-use Rattle.cl_trace.specs.Trace.{Item, Title, Ticks, JobOf, Runs, End, stretch_item, stretch_items, core_items, job_items, run_items, items_of}
-use Rattle.cl_trace.specs.Inner.Bodies.{jobs_in, items_in}
+use Rattle.cl_trace.specs.{Stretches.stretches_of, Trace.{Item, Title, Ticks, JobOf, Runs, End, stretch_item, stretch_items, core_items, job_items, run_items, items_of}, Inner.Bodies.{jobs_in, items_in}}
 use Rattle.cl_trace.proofs.LongestStretches.{own_stretches}
 
 -- ---- the jobs of a task among lines

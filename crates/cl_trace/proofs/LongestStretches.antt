@@ -1,10 +1,8 @@
 -- The stretches that are computed from entries are their longest.
 use Rattle.std.proofs.Common.{◌≡◌, ℕ, suc, ◌-◌, ◌<◌, Bool, true, false, Option, List, [], ◌∷◌, ◌++◌, cond, eqb, replicate, refl, sym, ap, ◌∙◌, arith}
 use Rattle.std.specs.Option.{option_eq}
-use Rattle.cl_run_data.specs.declared.stretches.Stretch.{Stretch}
-use Rattle.cl_run_data.specs.Stretches.{entries_from, AreLongest, AreStretchesOf}
-use Rattle.cl_run_data.proofs.StretchFacts.{who_same, who_other}
-use Rattle.cl_run_data.proofs.OneStretchList.{stretches_once}
+use Rattle.cl_run_data.specs.{declared.stretches.Stretch.Stretch, Stretches.{entries_from, AreLongest, AreStretchesOf}}
+use Rattle.cl_run_data.proofs.{StretchFacts.{who_same, who_other}, OneStretchList.stretches_once}
 use Rattle.cl_trace.specs.Stretches.{before_stretches, stretches_from, stretches_of}
 
 -- a first stretch that begins a tick earlier

@@ -1,27 +1,16 @@
 -- A text is read in one way: its lines are told by it, and so are what its trace spells and its first bad line.
-use Rattle.std.proofs.Common.{◌≡◌, ℕ, suc, ◌+◌, ◌^◌, ◌<◌, ◌≤◌, false, Some, List, [], ◌∷◌, ◌++◌, length, get_or, refl, sym, ap, ◌∙◌, subst, arith, append_assoc}
+use Rattle.std.proofs.Common.{◌≡◌, ℕ, suc, ◌^◌, ◌<◌, ◌≤◌, false, Some, List, [], ◌∷◌, ◌++◌, length, get_or, refl, sym, ap, ◌∙◌, subst, arith, append_assoc}
 use Rattle.std.specs.Prelude.{decimal, codes}
 use Rattle.std.specs.List.{All, AllPass}
 use Rattle.std.proofs.lemmas.List.{append-nil, append_cancel_left}
 use Rattle.std.proofs.lemmas.List.Elements.{All-nil, All-cons, All-head, All-tail}
-use Rattle.cl_model.specs.declared.model.SystemModel.{SystemModel}
-use Rattle.cl_model.specs.AreNamed.{AreNamed}
-use Rattle.cl_model.specs.ByNumber.{no_task, task_at, task_named}
-use Rattle.cl_model.specs.Validity.{IsValid}
+use Rattle.cl_model.specs.{declared.model.SystemModel.SystemModel, AreNamed.AreNamed, ByNumber.{no_task, task_at, task_named}, Validity.IsValid}
 use Rattle.cl_model.proofs.Links.{own_task}
-use Rattle.cl_text.specs.Decimal.{number_of}
-use Rattle.cl_text.specs.Line.{first_word, is_graphic, line}
-use Rattle.cl_text.specs.Standing.{NoneStands}
-use Rattle.cl_text.proofs.DecimalLemmas.{grammar_of_decimal}
-use Rattle.cl_text.proofs.LineLemmas.{first_word-ended, graphic_decimal}
+use Rattle.cl_text.specs.{Decimal.number_of, Line.{first_word, is_graphic, line}, Standing.NoneStands}
+use Rattle.cl_text.proofs.{DecimalLemmas.grammar_of_decimal, LineLemmas.{first_word-ended, graphic_decimal}}
 use Rattle.cl_runs.specs.declared.job.Job.{Job}
-use Rattle.cl_trace.specs.declared.limits.TheConstants.{MOST_TRACE_TICKS}
-use Rattle.cl_trace.specs.Trace.{Item, Title, Ticks, JobOf, Runs, End, numbers, item_text, text_of}
-use Rattle.cl_trace.specs.Rules.{HasHead, MayStand, AreGoodAfter, IsBadTraceLine}
-use Rattle.cl_trace.specs.Inner.Pieces.{AreTasksNamed}
-use Rattle.cl_trace.proofs.BadCases.{IsStuckAt, stuck_of}
-use Rattle.cl_trace.proofs.LineFacts.{numbers_first, split_line}
-use Rattle.cl_trace.proofs.PieceFacts.{graphic_name}
+use Rattle.cl_trace.specs.{declared.limits.TheConstants.MOST_TRACE_TICKS, Trace.{Item, Title, Ticks, JobOf, Runs, End, numbers, item_text, text_of}, Rules.{HasHead, MayStand, AreGoodAfter, IsBadTraceLine}, Inner.Pieces.AreTasksNamed}
+use Rattle.cl_trace.proofs.{BadCases.{IsStuckAt, stuck_of}, LineFacts.{numbers_first, split_line}, PieceFacts.graphic_name}
 
 -- ---- words and numbers
 

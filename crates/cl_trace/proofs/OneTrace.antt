@@ -1,16 +1,10 @@
 -- A text is the trace of one run at most.
 use Rattle.std.proofs.Common.{◌≡◌, ℕ, List, [], ◌∷◌, ◌++◌, refl, sym, ◌∙◌}
 use Rattle.std.proofs.lemmas.List.{append_cancel_left}
-use Rattle.cl_model.specs.declared.model.SystemModel.{SystemModel}
-use Rattle.cl_model.specs.AreNamed.{AreNamed}
-use Rattle.cl_model.specs.Validity.{IsValid}
-use Rattle.cl_runs.specs.Run.{Run, IsInForm}
-use Rattle.cl_runs.specs.SystemOf.{system_of}
-use Rattle.cl_trace.specs.Trace.{Title, Ticks, End, item_text, text_of, job_items, run_items, spelled}
-use Rattle.cl_trace.specs.Rules.{IsWithinLimits, IsTraceOf, IsBadTraceLine}
-use Rattle.cl_trace.specs.Inner.Pieces.{AreTasksNamed}
-use Rattle.cl_trace.proofs.LinesToRuns.{runs_same}
-use Rattle.cl_trace.proofs.OneReading.{tasks_named}
+use Rattle.cl_model.specs.{declared.model.SystemModel.SystemModel, AreNamed.AreNamed, Validity.IsValid}
+use Rattle.cl_runs.specs.{Run.{Run, IsInForm}, SystemOf.system_of}
+use Rattle.cl_trace.specs.{Trace.{Title, Ticks, End, item_text, text_of, job_items, run_items, spelled}, Rules.{IsWithinLimits, IsTraceOf, IsBadTraceLine}, Inner.Pieces.AreTasksNamed}
+use Rattle.cl_trace.proofs.{LinesToRuns.runs_same, OneReading.tasks_named}
 use Rattle.cl_trace.proofs.WholeTraces as whole
 
 -- ---- where the names of tasks are names

@@ -1,7 +1,7 @@
 -- Texts that grow piece by piece: of the elements of a list, and of numbers in order.
-use Rattle.std.proofs.Common.{◌≡◌, ℕ, suc, ◌+◌, ◌<◌, ◌≤◌, List, [], ◌∷◌, ◌++◌, length, get_or, drop, map, sym, ap, ◌∙◌, arith, append_assoc}
+use Rattle.std.proofs.Common.{◌≡◌, ℕ, suc, ◌+◌, ◌<◌, List, [], ◌∷◌, ◌++◌, length, get_or, drop, map, sym, ap, ◌∙◌, arith, append_assoc}
 use Rattle.std.specs.List.{flat_map, range_with_len}
-use Rattle.std.proofs.lemmas.List.{at_drop_more, at_drop_all, append-nil}
+use Rattle.std.proofs.lemmas.List.{at_drop_more, append-nil}
 use Rattle.std.proofs.lemmas.Grind.{flat_map-append}
 use Rattle.std.proofs.lemmas.List.Folds.{flat_map-map}
 use Rattle.cl_text.proofs.MoreLines.{range_more}
@@ -18,12 +18,6 @@ put_more f before text after xs i d lt was is =
     ∙ append_assoc text (f (get_or xs i d)) (flat_map f (drop (i + 1) xs))
     ∙ ap (λ t. text ++ t) (sym (at_drop_more (flat_map f) xs i d lt))
     ∙ was
-
--- none are left
-pub put_all : {X : Type 0} (f : X → List ℕ) (before text : List ℕ) (xs : List X) (i : ℕ) → length xs ≤ i
-    → text ++ flat_map f (drop i xs) ≡ before ++ flat_map f xs → text ≡ before ++ flat_map f xs
-put_all f before text xs i all was =
-    sym (append-nil text) ∙ ap (λ t. text ++ t) (sym (at_drop_all (flat_map f) xs i all)) ∙ was
 
 -- the items of one more number stand behind those before it
 pub items_more : (items : ℕ → List Item) (n : ℕ)

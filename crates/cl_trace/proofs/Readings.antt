@@ -4,21 +4,12 @@ use Rattle.std.specs.List.{flat_map, range_with_len}
 use Rattle.std.proofs.lemmas.Bool.{cases_lt}
 use Rattle.std.proofs.lemmas.Grind.{flat_map-append}
 use Rattle.cl_model.specs.declared.model.SystemModel.{SystemModel}
-use Rattle.cl_runs.specs.declared.job.Job.{Job}
-use Rattle.cl_runs.specs.Table.{no_job}
-use Rattle.cl_runs.specs.Run.{Run, jobs_of, IsInForm}
-use Rattle.cl_runs.specs.SystemOf.{system_of}
+use Rattle.cl_runs.specs.{declared.job.Job.Job, Table.no_job, Run.{Run, jobs_of, IsInForm}, SystemOf.system_of}
 use Rattle.cl_runs.proofs.ModelSystem.{count_is, range_count_is}
-use Rattle.cl_trace.specs.Trace.{Item, Title, Ticks, End, item_text, text_of, job_items, run_items, core_items, items_of, spelled}
-use Rattle.cl_trace.specs.Rules.{IsJobInRange, IsWithinLimits, IsTraceOf, AreGoodAfter}
-use Rattle.cl_trace.specs.Inner.Bodies.{IsBody, IsReadSoFar, items_in}
-use Rattle.cl_trace.proofs.GoodLines.{head_items, good_body}
-use Rattle.cl_trace.proofs.JobLines.{text_all}
+use Rattle.cl_trace.specs.{Trace.{Item, Title, Ticks, End, item_text, text_of, job_items, run_items, core_items, items_of, spelled}, Rules.{IsJobInRange, IsWithinLimits, IsTraceOf, AreGoodAfter}, Inner.Bodies.{IsReadSoFar, items_in}}
+use Rattle.cl_trace.proofs.{GoodLines.{head_items, good_body}, JobLines.text_all}
 
 module _ (model : SystemModel) (text : List ℕ) (run : Run) (rest : List ℕ) (read : IsReadSoFar model text run rest) where
-  body : IsBody model run.table.ticks read.behind run rest
-  body = read.body
-
   -- the job lines and the run lines that were read
   abbrev pub table_items : List Item
   table_items = flat_map (items_in run.table.jobs) (range_with_len 0 (length run.table.jobs))

@@ -3,23 +3,13 @@ use Rattle.std.proofs.Common.{◌≡◌, ◌≢◌, ℕ, zero, suc, ◌+◌, ◌
 use Rattle.std.specs.List.{All}
 use Rattle.std.proofs.lemmas.Bool.{cases_lt}
 use Rattle.std.proofs.lemmas.List.Elements.{All-nil, All-head, All-tail}
-use Rattle.cl_model.specs.declared.model.SystemModel.{SystemModel}
-use Rattle.cl_model.specs.ByNumber.{core_of}
-use Rattle.cl_runs.specs.TaskTiming.{Timing}
-use Rattle.cl_runs.specs.Run.{IsEntryOf}
-use Rattle.cl_runs.specs.SystemOf.{system_of}
+use Rattle.cl_model.specs.{declared.model.SystemModel.SystemModel, ByNumber.core_of}
+use Rattle.cl_runs.specs.{TaskTiming.Timing, Run.IsEntryOf, SystemOf.system_of}
 use Rattle.cl_runs.proofs.ModelSystem.{count_is, timing_is}
-use Rattle.cl_run_data.specs.declared.stretches.Stretch.{Stretch}
-use Rattle.cl_run_data.specs.Stretches.{AreStretchesOf}
-use Rattle.cl_run_data.specs.Inner.StretchPlaces.{end_from}
+use Rattle.cl_run_data.specs.{declared.stretches.Stretch.Stretch, Stretches.AreStretchesOf, Inner.StretchPlaces.end_from}
 use Rattle.cl_run_data.proofs.StretchFacts.{end_at_last}
-use Rattle.cl_trace.specs.Stretches.{stretches_of}
-use Rattle.cl_trace.specs.Trace.{Item, Runs, item_text, text_of, stretch_item, stretch_items}
-use Rattle.cl_trace.specs.Rules.{IsAboveRun, IsBelowRun}
-use Rattle.cl_trace.specs.Inner.Bodies.{AreEntriesOf, AreAllEntriesOf, IsStretchWithin, FitsEntries, idle_up_to, entries_appended}
-use Rattle.cl_trace.proofs.JobLines.{text_more}
-use Rattle.cl_trace.proofs.LongestStretches.{own_stretches}
-use Rattle.cl_trace.proofs.StretchItems.{EndsOther, no_stretch, size, last_entry, appended_items, appended_length, idle_items, idle_length, all_replicate}
+use Rattle.cl_trace.specs.{Stretches.stretches_of, Trace.{Item, Runs, item_text, text_of, stretch_item, stretch_items}, Rules.{IsAboveRun, IsBelowRun}, Inner.Bodies.{AreEntriesOf, AreAllEntriesOf, IsStretchWithin, FitsEntries, idle_up_to, entries_appended}}
+use Rattle.cl_trace.proofs.{JobLines.text_more, LongestStretches.own_stretches, StretchItems.{EndsOther, no_stretch, size, last_entry, appended_items, appended_length, idle_items, idle_length, all_replicate}}
 
 pub no_end : (who : Option ℕ) → EndsOther [] who
 no_end who tick end = absurd (omega arith)

@@ -4,12 +4,9 @@ use Rattle.std.specs.Prelude.{sum_by}
 use Rattle.std.specs.List.{range_with_len}
 use Rattle.std.proofs.lemmas.List.{length-map}
 use Rattle.std.proofs.lemmas.List.Concat.{length-flat_map}
-use Rattle.cl_runs.specs.TaskTiming.{System, timing_at, IsSound}
-use Rattle.cl_runs.specs.Run.{Run, jobs_of}
-use Rattle.cl_runs.specs.Legal.{IsLegal}
+use Rattle.cl_runs.specs.{TaskTiming.{System, timing_at, IsSound}, Run.{Run, jobs_of}, Legal.IsLegal}
 use Rattle.cl_trace.specs.Trace.{JobOf, task_items, core_items, job_items, run_items}
-use Rattle.cl_trace.proofs.Totals.{total, total_mono, total_twice, of_key, keys_apart}
-use Rattle.cl_trace.proofs.CoreTurns.{core_lines}
+use Rattle.cl_trace.proofs.{Totals.{total, total_mono, total_twice, of_key, keys_apart}, CoreTurns.core_lines}
 
 module _ (system : System) (sound : IsSound system) (run : Run) (legal : IsLegal system run) where
   all_jobs : length (job_items run) ≡ total (λ i. length (jobs_of run i)) 0 (length system.tasks)

@@ -1,8 +1,7 @@
 -- Runs whose entries of one core are replaced.
 use Rattle.std.proofs.Common.{◌≡◌, ℕ, ◌<◌, Option, List, [], ◌++◌, length, get_or, set, refl, sym, ap, ◌∙◌, subst}
 use Rattle.std.proofs.lemmas.List.{get_or-set_same, set-get_or, set-set, length-set}
-use Rattle.cl_runs.specs.declared.job.JobTable.{JobTable}
-use Rattle.cl_runs.specs.Run.{Run, core_entries}
+use Rattle.cl_runs.specs.{declared.job.JobTable.JobTable, Run.{Run, core_entries}}
 use Rattle.cl_trace.specs.Inner.Bodies.{IsRunWith}
 
 pub with_same : (run : Run) (core : ℕ) → IsRunWith run run core (core_entries run core)

@@ -2,22 +2,12 @@
 use Rattle.std.proofs.Common.{ℕ, ◌+◌, ◌*◌, ◌<◌, ◌≤◌, length, sym, subst, arith}
 use Rattle.std.specs.Prelude.{All}
 use Rattle.std.proofs.lemmas.List.Elements.{All-map}
-use Rattle.cl_model.specs.declared.limits.TheConstants.{MOST_TICKS}
-use Rattle.cl_model.specs.declared.model.SystemModel.{SystemModel}
-use Rattle.cl_model.specs.AreNamed.{AreNamed}
-use Rattle.cl_model.specs.ByNumber.{task_at, stimulus_of}
-use Rattle.cl_model.specs.Timing.{greatest_jitter}
-use Rattle.cl_model.specs.Validity.{IsValid}
+use Rattle.cl_model.specs.{declared.{limits.TheConstants.MOST_TICKS, model.SystemModel.SystemModel}, AreNamed.AreNamed, ByNumber.{task_at, stimulus_of}, Timing.greatest_jitter, Validity.IsValid}
 use Rattle.cl_model.proofs.ValidTasks.{kind_in_range, runnables_in_range}
-use Rattle.cl_runs.specs.TaskTiming.{TimeRange, Timing, timing_at}
-use Rattle.cl_runs.specs.SystemOf.{range_of, system_of}
-use Rattle.cl_runs.specs.Run.{Run}
-use Rattle.cl_runs.specs.Legal.{IsLegal}
+use Rattle.cl_runs.specs.{TaskTiming.{TimeRange, Timing, timing_at}, SystemOf.{range_of, system_of}, Run.Run, Legal.IsLegal}
 use Rattle.cl_runs.proofs.ModelSystem.{count_is, timing_is, system_sound}
-use Rattle.cl_trace.specs.Executions.{executions}
-use Rattle.cl_trace.specs.Trace.{spelled}
-use Rattle.cl_trace.proofs.LegalTraces.{jitter_small}
-use Rattle.cl_trace.proofs.TraceLength.{spelled_short}
+use Rattle.cl_trace.specs.{Executions.executions, Trace.spelled}
+use Rattle.cl_trace.proofs.{LegalTraces.jitter_small, TraceLength.spelled_short}
 
 abbrev HasFewTicks : Timing → Type 0
 HasFewTicks timing = (greatest_jitter timing.pattern ≤ MOST_TICKS) × All (λ (range : TimeRange). range.greatest ≤ MOST_TICKS) timing.ranges

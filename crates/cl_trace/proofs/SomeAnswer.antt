@@ -3,27 +3,12 @@ use Rattle.std.proofs.Common.{◌≡◌, ◌≢◌, ℕ, zero, suc, ◌+◌, ◌
 use Rattle.std.proofs.lemmas.Bool.{cases_lt}
 use Rattle.std.proofs.lemmas.List.{get_or-replicate, length-replicate, get_or_past}
 use Rattle.std.proofs.lemmas.List.Elements.{All-nil, All-cons}
-use Rattle.cl_model.specs.declared.model.SystemModel.{SystemModel}
-use Rattle.cl_model.specs.AreNamed.{AreNamed}
-use Rattle.cl_model.specs.Validity.{IsValid}
-use Rattle.cl_runs.specs.declared.job.Job.{Job}
-use Rattle.cl_runs.specs.declared.job.JobTable.{JobTable}
-use Rattle.cl_runs.specs.Run.{Run, core_entries}
-use Rattle.cl_trace.specs.declared.limits.TheConstants.{MOST_TRACE_TICKS}
-use Rattle.cl_trace.specs.Trace.{Title, Ticks, JobOf, Runs, End, item_text, text_of}
-use Rattle.cl_trace.specs.Rules.{IsJobOf, IsTraceOf, IsBadTraceLine}
-use Rattle.cl_trace.specs.Inner.Bodies.{AreJobsOf, AreJobLists, entries_appended, AreEntriesOf, AreAllEntriesOf, IsRunWith, AreCores, IsBody, IsReadSoFar}
-use Rattle.cl_trace.specs.Inner.Pieces.{AreTasksNamed, newlines}
-use Rattle.cl_trace.proofs.BadCases.{cases_of}
-use Rattle.cl_trace.proofs.BadLines.{no_below, too_long, no_title, no_ticks, read_up_to}
-use Rattle.cl_trace.proofs.CoreLines.{cores_more, other_core}
-use Rattle.cl_trace.proofs.Decisions.{Decided, BeginsWith, begins_or_not, some_below, IsNextJob, next_job_or_none, IsNextRun, next_run_or_none}
-use Rattle.cl_trace.proofs.JobLines.{item_longer, no_lists, lists_more}
-use Rattle.cl_trace.proofs.OneReading.{tasks_named}
-use Rattle.cl_trace.proofs.Readings.{read_trace_of}
-use Rattle.cl_trace.proofs.RunLines.{no_end, no_entries, entries_more, entries_all}
-use Rattle.cl_trace.proofs.RunWith.{with_pushed, entries_of_core, cores_same}
-use Rattle.cl_trace.proofs.StretchItems.{EndsOther, appended_busy}
+use Rattle.cl_model.specs.{declared.model.SystemModel.SystemModel, AreNamed.AreNamed, Validity.IsValid}
+use Rattle.cl_runs.specs.{declared.job.{Job.Job, JobTable.JobTable}, Run.{Run, core_entries}}
+use Rattle.cl_trace.specs.{declared.limits.TheConstants.MOST_TRACE_TICKS, Trace.{Title, Ticks, JobOf, Runs, End, item_text, text_of}, Rules.{IsJobOf, IsTraceOf, IsBadTraceLine}, Inner.Bodies.{AreJobsOf, AreJobLists, entries_appended, AreEntriesOf, AreAllEntriesOf, IsRunWith, AreCores}}
+use Rattle.cl_trace.specs.Inner.{Bodies.{IsBody, IsReadSoFar}, Pieces.{AreTasksNamed, newlines}}
+use Rattle.cl_trace.proofs.{BadCases.cases_of, BadLines.{no_below, too_long, no_title, no_ticks, read_up_to}, CoreLines.{cores_more, other_core}, Decisions.{Decided, BeginsWith, begins_or_not, some_below, IsNextJob, next_job_or_none, IsNextRun, next_run_or_none}, JobLines.item_longer}
+use Rattle.cl_trace.proofs.{JobLines.{no_lists, lists_more}, OneReading.tasks_named, Readings.read_trace_of, RunLines.{no_end, no_entries, entries_more, entries_all}, RunWith.{with_pushed, entries_of_core, cores_same}, StretchItems.{EndsOther, appended_busy}}
 
 -- ---- job lines
 

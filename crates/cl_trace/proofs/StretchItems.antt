@@ -5,13 +5,9 @@ use Rattle.std.proofs.lemmas.List.{append-nil, length-replicate, get_or-replicat
 use Rattle.std.proofs.lemmas.List.Elements.{All-nil, All-cons, All-append}
 use Rattle.std.proofs.Math.Seq.{get_or-append_right}
 use Rattle.std.specs.List.{All}
-use Rattle.cl_run_data.specs.declared.stretches.Stretch.{Stretch}
-use Rattle.cl_run_data.specs.Stretches.{entries_from, AreLongest, AreStretchesOf}
-use Rattle.cl_run_data.specs.Inner.StretchPlaces.{end_from}
+use Rattle.cl_run_data.specs.{declared.stretches.Stretch.Stretch, Stretches.{entries_from, AreLongest, AreStretchesOf}, Inner.StretchPlaces.end_from}
 use Rattle.cl_run_data.proofs.StretchFacts.{length-entries, end_at_last, ends_rise, ends_after as ends_after_start, entry_of_stretch, longest_push, entries_push}
-use Rattle.cl_trace.specs.Stretches.{stretches_of}
-use Rattle.cl_trace.specs.Inner.Bodies.{idle_up_to, entries_appended}
-use Rattle.cl_trace.specs.Trace.{Runs, stretch_item, stretch_items}
+use Rattle.cl_trace.specs.{Stretches.stretches_of, Inner.Bodies.{idle_up_to, entries_appended}, Trace.{Runs, stretch_item, stretch_items}}
 use Rattle.cl_trace.proofs.LongestStretches.{own_stretches, only_stretches}
 
 pub no_stretch : Stretch

@@ -5,10 +5,8 @@ use Rattle.std.proofs.lemmas.List.Elements.{All-nil, All-cons, All-head, All-dro
 use Rattle.std.proofs.lemmas.List.{length-replicate, drop_at, get_or_default}
 use Rattle.std.proofs.Math.ListN.{length-map}
 use Rattle.cl_model.specs.declared.model.SystemModel.{SystemModel}
-use Rattle.cl_runs.specs.Run.{Run, core_entries, entry_at, IsInForm, IsEntryOf}
-use Rattle.cl_runs.specs.SystemOf.{system_of, timing_of}
-use Rattle.cl_run_data.specs.declared.stretches.Stretch.{Stretch}
-use Rattle.cl_run_data.specs.Stretches.{entries_from, AreLongest, AreStretchesOf}
+use Rattle.cl_runs.specs.{Run.{Run, core_entries, entry_at, IsInForm, IsEntryOf}, SystemOf.{system_of, timing_of}}
+use Rattle.cl_run_data.specs.{declared.stretches.Stretch.Stretch, Stretches.{entries_from, AreLongest, AreStretchesOf}}
 use Rattle.cl_run_data.proofs.StretchFacts.{head_of, tail_of}
 use Rattle.cl_trace.specs.Inner.TaskStretches.{IsTaskOrNone, IsOfTask}
 

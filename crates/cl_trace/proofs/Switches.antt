@@ -2,17 +2,9 @@
 -- finished.
 use Rattle.std.proofs.Common.{◌≡◌, ℕ, zero, suc, ◌<◌, ◌≤◌, ◌⊎◌, inl, inr, Option, Some, None, length, refl, ap, sym, subst, arith}
 use Rattle.std.proofs.lemmas.Bool.{cases_lt}
-use Rattle.cl_runs.specs.TaskTiming.{System, timing_at, IsSound}
-use Rattle.cl_runs.specs.Table.{job_at}
-use Rattle.cl_runs.specs.Run.{Run, jobs_of, core_entries, entry_at, executed, IsEntryOf}
-use Rattle.cl_runs.specs.Legal.{released, IsScheduled, IsLegal}
-use Rattle.cl_runs.specs.Moments.{IsHeldAt}
-use Rattle.cl_runs.proofs.Executed.{cases_entry, executed_zero, executed_more, executed_stays}
-use Rattle.cl_runs.proofs.HeldTasks.{held_moved}
-use Rattle.cl_runs.proofs.Holding.{held_runs}
-use Rattle.cl_runs.proofs.LegalFacts.{core_ticks, running_scheduled, executed_released, running_pending}
-use Rattle.cl_runs.proofs.RunArrivals.{releases_in_order}
-use Rattle.cl_runs.proofs.Work.{total_time, released_before, released_first, released_total}
+use Rattle.cl_runs.specs.{TaskTiming.{System, timing_at, IsSound}, Table.job_at, Run.{Run, jobs_of, core_entries, entry_at, executed, IsEntryOf}, Legal.{released, IsScheduled, IsLegal}, Moments.IsHeldAt}
+use Rattle.cl_runs.proofs.{Executed.{cases_entry, executed_zero, executed_more, executed_stays}, HeldTasks.held_moved, Holding.held_runs, LegalFacts.{core_ticks, running_scheduled, executed_released, running_pending}, RunArrivals.releases_in_order, Work.{total_time, released_before}}
+use Rattle.cl_runs.proofs.Work.{released_first, released_total}
 use Rattle.cl_trace.proofs.JobCounts.{IsInside, begun_jobs, done_jobs, inside_or_begins, inside_or_finishes}
 
 module _ (system : System) (sound : IsSound system) (run : Run) (legal : IsLegal system run) where

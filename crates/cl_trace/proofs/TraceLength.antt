@@ -7,24 +7,11 @@ use Rattle.std.proofs.lemmas.List.{length-append, length-map}
 use Rattle.std.proofs.lemmas.List.Concat.{length-flat_map}
 use Rattle.std.proofs.lemmas.List.Elements.{All-head, All-tail, All-cons}
 use Rattle.std.proofs.lemmas.List.Sums.{sum_by-cons, sum_by-append}
-use Rattle.cl_model.specs.declared.limits.TheConstants.{MOST_TICKS}
-use Rattle.cl_model.specs.declared.model.SystemModel.{SystemModel}
-use Rattle.cl_model.specs.declared.stimulus.StimulusKind.{StimulusKind}
-use Rattle.cl_model.specs.AreNamed.{AreNamed}
-use Rattle.cl_model.specs.Timing.{greatest_jitter}
-use Rattle.cl_runs.specs.declared.job.Job.{Job}
-use Rattle.cl_runs.specs.TaskTiming.{TimeRange, Timing, System, timing_at, IsSound}
-use Rattle.cl_runs.specs.Table.{HasTimes, LiesIn}
-use Rattle.cl_runs.specs.Arrivals.{AreArrivalsFrom}
-use Rattle.cl_runs.specs.Run.{Run, jobs_of, core_entries}
-use Rattle.cl_runs.specs.Legal.{IsLegal}
+use Rattle.cl_model.specs.{declared.{limits.TheConstants.MOST_TICKS, model.SystemModel.SystemModel, stimulus.StimulusKind.StimulusKind}, AreNamed.AreNamed, Timing.greatest_jitter}
+use Rattle.cl_runs.specs.{declared.job.Job.Job, TaskTiming.{TimeRange, Timing, System, timing_at, IsSound}, Table.{HasTimes, LiesIn}, Arrivals.AreArrivalsFrom, Run.{Run, jobs_of, core_entries}, Legal.IsLegal}
 use Rattle.cl_run_data.specs.declared.stretches.Stretch.{Stretch}
-use Rattle.cl_trace.specs.Executions.{job_executions, executions}
-use Rattle.cl_trace.specs.Stretches.{before_stretches, stretches_from, stretches_of}
-use Rattle.cl_trace.specs.Trace.{Item, Title, Ticks, JobOf, Runs, End, numbers, item_text, task_items, stretch_item, stretch_items, core_items, job_items, run_items, items_of, spelled}
-use Rattle.cl_trace.proofs.LineLengths.{IsShort, numbers_short, job_short, run_short}
-use Rattle.cl_trace.proofs.RunTurns.{run_lines}
-use Rattle.cl_trace.proofs.Totals.{total, total_mono}
+use Rattle.cl_trace.specs.{Executions.{job_executions, executions}, Stretches.{before_stretches, stretches_from, stretches_of}, Trace.{Item, Title, Ticks, JobOf, Runs, End, numbers, item_text, task_items, stretch_item, stretch_items, core_items, job_items, run_items, items_of, spelled}}
+use Rattle.cl_trace.proofs.{LineLengths.{IsShort, numbers_short, job_short, run_short}, RunTurns.run_lines, Totals.{total, total_mono}}
 
 -- ---- sums over lists of lists
 

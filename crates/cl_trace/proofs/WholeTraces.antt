@@ -4,24 +4,12 @@ use Rattle.std.proofs.Common.{◌≡◌, ℕ, ◌<◌, Option, None, List, [], �
 use Rattle.std.specs.List.{All, flat_map, range_with_len}
 use Rattle.std.proofs.lemmas.List.{append-nil, get_or_default}
 use Rattle.std.proofs.lemmas.List.Elements.{All-cons, All-append, All-head}
-use Rattle.cl_model.specs.declared.model.SystemModel.{SystemModel}
-use Rattle.cl_model.specs.ByNumber.{task_at}
-use Rattle.cl_model.specs.Validity.{IsValid}
-use Rattle.cl_runs.specs.declared.job.Job.{Job}
-use Rattle.cl_runs.specs.Table.{no_job}
-use Rattle.cl_runs.specs.Run.{Run, core_entries, IsEntryOf}
-use Rattle.cl_runs.specs.SystemOf.{system_of}
+use Rattle.cl_model.specs.{declared.model.SystemModel.SystemModel, ByNumber.task_at, Validity.IsValid}
+use Rattle.cl_runs.specs.{declared.job.Job.Job, Table.no_job, Run.{Run, core_entries, IsEntryOf}, SystemOf.system_of}
 use Rattle.cl_runs.proofs.ModelSystem.{count_is, range_count_is}
-use Rattle.cl_trace.specs.Stretches.{stretches_of}
-use Rattle.cl_trace.specs.Trace.{Item, Title, Ticks, JobOf, Runs, End, text_of, job_items, run_items, core_items, items_of, spelled}
-use Rattle.cl_trace.specs.Rules.{IsOpen, IsAboveJob, IsAboveRun, IsJobOf, MayStand, AreGoodAfter, IsTraceOf, IsBadTraceLine}
-use Rattle.cl_trace.specs.Inner.Bodies.{jobs_in, items_in}
-use Rattle.cl_trace.specs.Inner.Pieces.{AreTasksNamed}
-use Rattle.cl_trace.proofs.BadCases.{IsStuckAt, stuck_of}
-use Rattle.cl_trace.proofs.BadLines.{IsRun, all_flat, jobs_open, runs_only, run_open}
-use Rattle.cl_trace.proofs.GoodLines.{head_items, good_append, good_body}
-use Rattle.cl_trace.proofs.OneReading.{IsStuck, lines_once}
-use Rattle.cl_trace.proofs.RunLines.{all_right}
+use Rattle.cl_trace.specs.{Stretches.stretches_of, Trace.{Item, Title, Ticks, JobOf, Runs, End, text_of, job_items, run_items, core_items, items_of, spelled}, Rules.{IsOpen, IsAboveJob, IsAboveRun, IsJobOf, MayStand, AreGoodAfter, IsTraceOf, IsBadTraceLine}, Inner.Bodies.jobs_in}
+use Rattle.cl_trace.specs.Inner.{Bodies.items_in, Pieces.AreTasksNamed}
+use Rattle.cl_trace.proofs.{BadCases.{IsStuckAt, stuck_of}, BadLines.{IsRun, all_flat, jobs_open, runs_only, run_open}, GoodLines.{head_items, good_append, good_body}, OneReading.{IsStuck, lines_once}, RunLines.all_right}
 
 module _ (model : SystemModel) (text : List ℕ) (run : Run) (trace : IsTraceOf model text run) where
   -- its job lines and its run lines

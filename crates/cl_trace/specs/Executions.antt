@@ -1,7 +1,6 @@
 -- How many times runnables are executed.
 use Rattle.std.specs.Prelude.{ℕ, List, length, sum_by}
-use Rattle.cl_runs.specs.declared.job.Job.{Job}
-use Rattle.cl_runs.specs.declared.job.JobTable.{JobTable}
+use Rattle.cl_runs.specs.declared.job.{Job.Job, JobTable.JobTable}
 
 -- of the jobs of a task: one time for each runnable of each job
 abbrev pub job_executions : List Job → ℕ

@@ -2,10 +2,8 @@
 use Rattle.std.specs.Prelude.{ℕ, Option, Some, None, List, [], ◌∷◌, ◌++◌, length, map, codes, decimal}
 use Rattle.std.specs.List.{flat_map, range_with_len}
 use Rattle.cl_text.specs.Line.{line}
-use Rattle.cl_model.specs.declared.model.SystemModel.{SystemModel}
-use Rattle.cl_model.specs.ByNumber.{task_at}
-use Rattle.cl_runs.specs.declared.job.Job.{Job}
-use Rattle.cl_runs.specs.Run.{Run, jobs_of, core_entries}
+use Rattle.cl_model.specs.{declared.model.SystemModel.SystemModel, ByNumber.task_at}
+use Rattle.cl_runs.specs.{declared.job.Job.Job, Run.{Run, jobs_of, core_entries}}
 use Rattle.cl_run_data.specs.declared.stretches.Stretch.{Stretch}
 use Rattle.cl_trace.specs.Stretches.{stretches_of}
 

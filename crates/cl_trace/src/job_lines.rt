@@ -1,9 +1,7 @@
 //! Reading the job lines of a trace as a job table.
 ghost use Rattle.std.specs.Prelude.{◌≡◌, ◌<◌, [], length, IfOk};
-ghost use Rattle.cl_model.specs.Name.{IsName};
-ghost use Rattle.cl_model.specs.ByNumber.{task_at};
-ghost use Rattle.cl_trace.specs.Inner.Bodies.{AreJobsOf, AreJobLists};
-ghost use Rattle.cl_trace.specs.Inner.Pieces.{AreTasksNamed};
+ghost use Rattle.cl_model.specs.{Name.IsName, ByNumber.task_at};
+ghost use Rattle.cl_trace.specs.Inner.{Bodies.{AreJobsOf, AreJobLists}, Pieces.AreTasksNamed};
 
 use crate::lines::job_after;
 use cl_model::{List, ValidModel};

@@ -1,14 +1,9 @@
 //! Reading the lines of a trace. Each call returns what the line says and the rest of the text.
 ghost use Rattle.std.specs.Prelude.{◌≡◌, ◌≢◌, ◌<◌, ◌≤◌, ℕ, List, ◌∷◌, ◌++◌, [], length, codes, IfOk, IfSome, IfNone};
 ghost use Rattle.cl_text.specs.Line.{line};
-ghost use Rattle.cl_model.specs.Name.{IsName};
-ghost use Rattle.cl_model.specs.ByNumber.{task_at};
-ghost use Rattle.cl_model.specs.Validity.{IsValid};
+ghost use Rattle.cl_model.specs.{Name.IsName, ByNumber.task_at, Validity.IsValid};
 ghost use Rattle.cl_runs.specs.declared.job.Job.{Job};
-ghost use Rattle.cl_trace.specs.declared.limits.TheConstants.{MOST_TRACE_TICKS, MOST_TRACE_NUMBER};
-ghost use Rattle.cl_trace.specs.Trace.{numbers, ticks_words, run_words, JobOf, Runs, item_text};
-ghost use Rattle.cl_trace.specs.Rules.{IsJobOf};
-ghost use Rattle.cl_trace.specs.Inner.Pieces.{AreRead, AreTimes, AreTasksNamed};
+ghost use Rattle.cl_trace.specs.{declared.limits.TheConstants.{MOST_TRACE_TICKS, MOST_TRACE_NUMBER}, Trace.{numbers, ticks_words, run_words, JobOf, Runs, item_text}, Rules.IsJobOf, Inner.Pieces.{AreRead, AreTimes, AreTasksNamed}};
 
 use crate::guesses::Guesses;
 use crate::limits::{MOST_TRACE_NUMBER, MOST_TRACE_TICKS};

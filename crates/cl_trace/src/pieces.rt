@@ -2,11 +2,8 @@
 //! text.
 ghost use Rattle.std.specs.Prelude.{◌≡◌, ◌≢◌, ◌↔◌, ◌^◌, ◌<◌, ◌≤◌, ℕ, List, [], ◌∷◌, ◌++◌, false, length, slice_index, All, IsTrue, Some, None, IfSome, IfNone, decimal};
 ghost use Rattle.cl_text.specs.Line.{first_word, is_graphic};
-ghost use Rattle.cl_model.specs.Name.{IsName};
-ghost use Rattle.cl_model.specs.ByNumber.{task_at, task_named};
-ghost use Rattle.cl_model.specs.Validity.{IsValid};
-ghost use Rattle.cl_trace.specs.Trace.{number_text};
-ghost use Rattle.cl_trace.specs.Inner.Pieces.{IsRead, AreDigitsOf};
+ghost use Rattle.cl_model.specs.{Name.IsName, ByNumber.{task_at, task_named}, Validity.IsValid};
+ghost use Rattle.cl_trace.specs.{Trace.number_text, Inner.Pieces.{IsRead, AreDigitsOf}};
 
 use crate::guesses::Guesses;
 use cl_model::{Name, ValidModel};

@@ -3,10 +3,7 @@ ghost use Rattle.std.specs.Prelude.{◌≡◌, ◌+◌, ◌≤◌, ◌-◌, leng
 ghost use Rattle.cl_text.specs.LinesFault.{IfBadLine, ReadsThis};
 ghost use Rattle.cl_model.specs.Validity.{IsValid};
 ghost use Rattle.cl_runs.specs.Run.{Run};
-ghost use Rattle.cl_trace.specs.declared.limits.TheConstants.{MOST_TRACE_TICKS};
-ghost use Rattle.cl_trace.specs.Rules.{IsTraceOf, IsBadTraceLine};
-ghost use Rattle.cl_trace.specs.Inner.Bodies.{IsBody, IsReadSoFar, AreCores};
-ghost use Rattle.cl_trace.specs.Inner.Pieces.{AreTasksNamed, newlines};
+ghost use Rattle.cl_trace.specs.{declared.limits.TheConstants.MOST_TRACE_TICKS, Rules.{IsTraceOf, IsBadTraceLine}, Inner.{Bodies.{IsBody, IsReadSoFar, AreCores}, Pieces.{AreTasksNamed, newlines}}};
 
 use crate::job_lines::table_after;
 use crate::lines::ticks_after;

@@ -2,10 +2,7 @@
 ghost use Rattle.std.specs.Prelude.{◌≡◌, ◌<◌, ◌≤◌, ◌≢◌, ◌↔◌, ◌++◌, ℕ, List, [], length, IsTrue, OnOk, IfOk, IfSome, IfNone};
 ghost use Rattle.cl_model.specs.Validity.{IsValid};
 ghost use Rattle.cl_runs.specs.Run.{core_entries};
-ghost use Rattle.cl_trace.specs.declared.lines.RunLine.{RunLine};
-ghost use Rattle.cl_trace.specs.Trace.{Runs, item_text};
-ghost use Rattle.cl_trace.specs.Inner.Bodies.{IsStretchWithin, FitsEntries, AreAllEntriesOf, IsRunWith, AreCores, entries_appended};
-ghost use Rattle.cl_trace.specs.Inner.Pieces.{AreTasksNamed};
+ghost use Rattle.cl_trace.specs.{declared.lines.RunLine.RunLine, Trace.{Runs, item_text}, Inner.{Bodies.{IsStretchWithin, FitsEntries, AreAllEntriesOf, IsRunWith, AreCores, entries_appended}, Pieces.AreTasksNamed}};
 
 use crate::guesses::Guesses;
 use crate::lines::{RunLine, run_after};

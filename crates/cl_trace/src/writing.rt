@@ -2,10 +2,8 @@
 ghost use Rattle.std.specs.Prelude.{◌≡◌, ◌<◌, ◌≤◌, [], ◌∷◌, ◌++◌, length, codes, map, All, OnOk, IfOk};
 ghost use Rattle.cl_text.specs.Line.{line};
 ghost use Rattle.cl_model.specs.ByNumber.{task_at};
-ghost use Rattle.cl_runs.specs.Run.{IsInForm};
-ghost use Rattle.cl_runs.specs.SystemOf.{system_of};
-ghost use Rattle.cl_trace.specs.Trace.{JobOf, number_text, numbers, job_line_words, run_words, text_of, job_items, run_items, core_items, stretch_item, stretch_items, spelled};
-ghost use Rattle.cl_trace.specs.Inner.TaskStretches.{IsOfTask};
+ghost use Rattle.cl_runs.specs.{Run.IsInForm, SystemOf.system_of};
+ghost use Rattle.cl_trace.specs.{Trace.{JobOf, number_text, numbers, job_line_words, run_words, text_of, job_items, run_items, core_items, stretch_item, stretch_items, spelled}, Inner.TaskStretches.IsOfTask};
 
 use crate::ending::Ending;
 use cl_model::ValidModel;

@@ -1,22 +1,12 @@
 -- The first broken rule of a run is that of one of its tasks, or, where its job table is lawful, that of one of its cores.
-use Rattle.std.proofs.Common.{◌≡◌, ℕ, zero, suc, ◌+◌, ◌<◌, ◌≤◌, inl, inr, Bool, true, false, Option, Some, None, List, [], ◌∷◌, ◌++◌, length, refl, sym, ap, ◌∙◌, subst, arith}
+use Rattle.std.proofs.Common.{◌≡◌, ℕ, zero, suc, ◌+◌, ◌<◌, ◌≤◌, inl, inr, Bool, true, false, Some, List, [], ◌∷◌, ◌++◌, length, ap, subst, arith}
 use Rattle.std.specs.Prelude.{unwrap_or}
 use Rattle.std.specs.List.{range_with_len, flat_map}
-use Rattle.cl_model.specs.declared.model.SystemModel.{SystemModel}
-use Rattle.cl_model.specs.declared.stimulus.StimulusKind.{StimulusKind}
-use Rattle.cl_runs.specs.declared.job.Job.{Job}
-use Rattle.cl_runs.specs.declared.job.JobTable.{JobTable}
-use Rattle.cl_runs.specs.Pattern.{first_least, first_greatest, least_gap, greatest_gap}
-use Rattle.cl_runs.specs.Run.{Run, IsInForm}
-use Rattle.cl_runs.specs.SystemOf.{system_of}
+use Rattle.cl_model.specs.declared.{model.SystemModel.SystemModel, stimulus.StimulusKind.StimulusKind}
+use Rattle.cl_runs.specs.{declared.job.{Job.Job, JobTable.JobTable}, Pattern.{first_least, first_greatest, least_gap, greatest_gap}, Run.{Run, IsInForm}, SystemOf.system_of, Table.{table_jobs, IsLawful}, TaskTiming.{TimeRange, System, timing_at}}
 use Rattle.cl_runs.proofs.ModelSystem.{count_is, cores_are}
-use Rattle.cl_runs.specs.Table.{table_jobs, IsLawful}
-use Rattle.cl_runs.specs.TaskTiming.{TimeRange, System, timing_at}
-use Rattle.cl_check.specs.declared.run_fault.Rule.{Rule}
-use Rattle.cl_check.specs.declared.run_fault.Rule.TheVariants.{Arrival, Release, Time, Missing, Schedule}
-use Rattle.cl_check.specs.declared.run_fault.RunFault.{RunFault}
-use Rattle.cl_check.specs.declared.run_fault.RunFault.TheVariants.{Illegal, NoMemory}
-use Rattle.cl_check.specs.Legality.{fault_unless, first_fault, arrival_faults, release_faults, time_faults, job_faults, faults_from, faults_of_task, table_faults, BreaksSchedule, IsFirstBroken}
+use Rattle.cl_check.specs.{declared.run_fault.{Rule.{Rule, TheVariants.{Arrival, Release, Time, Missing, Schedule}}, RunFault.{RunFault, TheVariants.{Illegal, NoMemory}}}, Legality.{fault_unless, first_fault, arrival_faults, release_faults, time_faults, job_faults, faults_from}}
+use Rattle.cl_check.specs.Legality.{faults_of_task, table_faults, IsFirstBroken}
 use Rattle.cl_check.proofs.LawfulFaults.{faultless_lawful}
 
 -- the rule of a table

@@ -2,9 +2,7 @@
 use Rattle.std.proofs.Common.{◌≡◌, ℕ, ◌<◌, Option, Some, None, length, arith}
 use Rattle.std.specs.Prelude.{IfSome}
 use Rattle.cl_model.specs.declared.model.SystemModel.{SystemModel}
-use Rattle.cl_runs.specs.Run.{Run, core_entries, entry_at, IsEntryOf, IsInForm}
-use Rattle.cl_runs.specs.SystemOf.{system_of}
-use Rattle.cl_runs.specs.TaskTiming.{System}
+use Rattle.cl_runs.specs.{Run.{Run, core_entries, entry_at, IsEntryOf, IsInForm}, SystemOf.system_of, TaskTiming.System}
 use Rattle.cl_runs.proofs.ModelSystem.{count_is, cores_are}
 
 task_within : (system : System) (core n : ℕ) → length system.tasks ≡ n → (entry : Option ℕ) → IsEntryOf system core entry

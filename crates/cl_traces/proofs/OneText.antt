@@ -1,13 +1,9 @@
 -- What is said of a broken rule: it is one text, and what is appended of a rule is said of an equal one.
 use Rattle.std.proofs.Common.{◌≡◌, ℕ, List, ◌++◌, sym, ap, ◌∙◌, subst}
-use Rattle.cl_model.specs.declared.model.SystemModel.{SystemModel}
-use Rattle.cl_model.specs.Validity.{IsValid}
-use Rattle.cl_runs.specs.Run.{Run, entry_at}
-use Rattle.cl_runs.specs.SystemOf.{system_of}
-use Rattle.cl_runs.proofs.ModelSystem.{system_sound}
-use Rattle.cl_runs.proofs.OneRun.{one_run}
-use Rattle.cl_check.specs.declared.run_fault.Rule.{Rule}
-use Rattle.cl_check.specs.declared.run_fault.Rule.TheVariants.{Arrival, Release, Time, Missing, Schedule}
+use Rattle.cl_model.specs.{declared.model.SystemModel.SystemModel, Validity.IsValid}
+use Rattle.cl_runs.specs.{Run.{Run, entry_at}, SystemOf.system_of}
+use Rattle.cl_runs.proofs.{ModelSystem.system_sound, OneRun.one_run}
+use Rattle.cl_check.specs.declared.run_fault.Rule.{Rule, TheVariants.{Arrival, Release, Time, Missing, Schedule}}
 use Rattle.cl_traces.specs.SaidOfRules.{found_and_wanted, entry_words, IsSaidOfRule, TellsOfRule}
 
 pub one_text : (model : SystemModel) → IsValid model → (run : Run) (rule : Rule) (place tick : ℕ) → (one other : List ℕ)

@@ -1,16 +1,9 @@
 -- Of each first broken rule of a run in form something is said.
-use Rattle.std.proofs.Common.{◌≡◌, ℕ, List, refl}
-use Rattle.cl_model.specs.declared.model.SystemModel.{SystemModel}
-use Rattle.cl_model.specs.ByNumber.{task_at}
-use Rattle.cl_model.specs.Validity.{IsValid}
-use Rattle.cl_runs.specs.Run.{Run, entry_at, IsInForm}
-use Rattle.cl_runs.specs.SystemOf.{system_of}
-use Rattle.cl_runs.proofs.Filling.{legal_of_table}
-use Rattle.cl_runs.proofs.ModelSystem.{system_sound}
-use Rattle.cl_check.specs.declared.run_fault.Rule.{Rule}
-use Rattle.cl_check.specs.declared.run_fault.Rule.TheVariants.{Arrival, Release, Time, Missing, Schedule}
-use Rattle.cl_check.specs.declared.run_fault.RunFault.TheVariants.{Illegal}
-use Rattle.cl_check.specs.Legality.{IsFirstBroken}
+use Rattle.std.proofs.Common.{ℕ, List, refl}
+use Rattle.cl_model.specs.{declared.model.SystemModel.SystemModel, ByNumber.task_at, Validity.IsValid}
+use Rattle.cl_runs.specs.{Run.{Run, entry_at, IsInForm}, SystemOf.system_of}
+use Rattle.cl_runs.proofs.{Filling.legal_of_table, ModelSystem.system_sound}
+use Rattle.cl_check.specs.{declared.run_fault.{Rule.{Rule, TheVariants.{Arrival, Release, Time, Missing, Schedule}}, RunFault.TheVariants.Illegal}, Legality.IsFirstBroken}
 use Rattle.cl_traces.specs.SaidOfRules.{found_and_wanted, missing_text, entry_words, said_of_arrival, said_of_release, said_of_time, IsSaidOfRule}
 use Rattle.cl_traces.proofs.BrokenPlaces.{broken_core}
 

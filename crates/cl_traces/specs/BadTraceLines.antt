@@ -1,14 +1,10 @@
 -- What is said of the first bad line of a trace: what stands there, and what is wanted in its place.
-use Rattle.std.specs.Prelude.{ℕ, ◌-◌, Bool, ◌&&◌, ◌==◌, nat_lt, if◌then◌else◌, List, ◌++◌, length, Option, Some, None, unwrap_or, codes, decimal}
+use Rattle.std.specs.Prelude.{ℕ, ◌-◌, ◌&&◌, ◌==◌, nat_lt, if◌then◌else◌, List, ◌++◌, length, Option, Some, None, unwrap_or, codes, decimal}
 use Rattle.std.specs.Str.{bytes_eq}
 use Rattle.cl_text.specs.Line.{line}
-use Rattle.cl_model.specs.declared.model.SystemModel.{SystemModel}
-use Rattle.cl_model.specs.declared.model.CoreDef.{CoreDef}
-use Rattle.cl_model.specs.declared.task.TaskDef.{TaskDef}
-use Rattle.cl_model.specs.ByNumber.{task_at, core_at, core_of, task_named}
+use Rattle.cl_model.specs.{declared.{model.{SystemModel.SystemModel, CoreDef.CoreDef}, task.TaskDef.TaskDef}, ByNumber.{task_at, core_at, core_of, task_named}}
 use Rattle.cl_advice.specs.Shown.{quoted}
-use Rattle.cl_traces.specs.declared.run_line.RunLine.{RunLine}
-use Rattle.cl_traces.specs.TraceLines.{trace_line, is_fed, is_at_end, line_words, line_word, printed_number}
+use Rattle.cl_traces.specs.{declared.run_line.RunLine.RunLine, TraceLines.{trace_line, is_fed, is_at_end, line_words, line_word, printed_number}}
 
 -- ---- job lines
 

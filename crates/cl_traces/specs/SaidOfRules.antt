@@ -3,18 +3,9 @@ use Rattle.std.specs.Prelude.{◌≡◌, ℕ, suc, ◌+◌, ◌-◌, Bool, ◌&&
 use Rattle.std.specs.List.{find, zip}
 use Rattle.std.specs.Option.{option_map_or}
 use Rattle.cl_text.specs.Line.{line}
-use Rattle.cl_model.specs.declared.model.SystemModel.{SystemModel}
-use Rattle.cl_model.specs.declared.stimulus.StimulusKind.{StimulusKind}
-use Rattle.cl_model.specs.declared.task.RunnableDef.{RunnableDef}
-use Rattle.cl_model.specs.ByNumber.{task_at, stimulus_of}
-use Rattle.cl_model.specs.Timing.{greatest_jitter}
-use Rattle.cl_runs.specs.declared.job.Job.{Job}
-use Rattle.cl_runs.specs.Pattern.{first_least, first_greatest, least_gap, greatest_gap}
-use Rattle.cl_runs.specs.SystemOf.{system_of}
-use Rattle.cl_runs.specs.Run.{Run, jobs_of, entry_at}
-use Rattle.cl_runs.specs.Legal.{IsLegal}
-use Rattle.cl_check.specs.declared.run_fault.Rule.{Rule}
-use Rattle.cl_check.specs.declared.run_fault.Rule.TheVariants.{Arrival, Release, Time, Missing, Schedule}
+use Rattle.cl_model.specs.{declared.{model.SystemModel.SystemModel, stimulus.StimulusKind.StimulusKind, task.RunnableDef.RunnableDef}, ByNumber.{task_at, stimulus_of}, Timing.greatest_jitter}
+use Rattle.cl_runs.specs.{declared.job.Job.Job, Pattern.{first_least, first_greatest, least_gap, greatest_gap}, SystemOf.system_of, Run.{Run, jobs_of, entry_at}, Legal.IsLegal}
+use Rattle.cl_check.specs.declared.run_fault.Rule.{Rule, TheVariants.{Arrival, Release, Time, Missing, Schedule}}
 
 -- what stands there, and what is wanted
 abbrev pub found_and_wanted : (found wanted : List ℕ) → List ℕ

@@ -1,10 +1,8 @@
 //! What is said of the first rule that a run breaks. Times are in ticks.
 ghost use Rattle.std.specs.Prelude.{◌≡◌, ◌<◌, ◌++◌, length, OnOk};
 ghost use Rattle.cl_model.specs.ByNumber.{task_at};
-ghost use Rattle.cl_runs.specs.Run.{IsInForm};
-ghost use Rattle.cl_runs.specs.SystemOf.{system_of};
-ghost use Rattle.cl_check.specs.declared.run_fault.RunFault.TheVariants.{Illegal};
-ghost use Rattle.cl_check.specs.Legality.{IsFirstBroken};
+ghost use Rattle.cl_runs.specs.{Run.IsInForm, SystemOf.system_of};
+ghost use Rattle.cl_check.specs.{declared.run_fault.RunFault.TheVariants.Illegal, Legality.IsFirstBroken};
 ghost use Rattle.cl_traces.specs.SaidOfRules.{missing_text, said_of_arrival, said_of_release, said_of_time, TellsOfRule};
 
 use crate::arrivals::put_arrival;

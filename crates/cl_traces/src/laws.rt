@@ -1,7 +1,6 @@
 //! What holds of what is said of a broken rule, whatever the code does.
 ghost use Rattle.std.specs.Prelude.{◌≡◌, ℕ, List};
-ghost use Rattle.cl_model.specs.declared.model.SystemModel.{SystemModel};
-ghost use Rattle.cl_model.specs.Validity.{IsValid};
+ghost use Rattle.cl_model.specs.{declared.model.SystemModel.SystemModel, Validity.IsValid};
 ghost use Rattle.cl_runs.specs.Run.{Run};
 ghost use Rattle.cl_check.specs.declared.run_fault.Rule.{Rule};
 ghost use Rattle.cl_traces.specs.SaidOfRules.{IsSaidOfRule};

@@ -1,7 +1,6 @@
 //! What the run lines of a trace say. Times are in ticks.
 ghost use Rattle.std.specs.Prelude.{◌≡◌, ◌<◌, length, position, Some, IfSome};
-ghost use Rattle.cl_model.specs.ByNumber.{task_named};
-ghost use Rattle.cl_model.specs.Named.{same_name};
+ghost use Rattle.cl_model.specs.{ByNumber.task_named, Named.same_name};
 ghost use Rattle.cl_traces.specs.BadTraceLines.{run_of, run_line, run_line_at};
 
 use crate::lines::{count_words, is, is_fed, line_word, printed_number, trace_line};

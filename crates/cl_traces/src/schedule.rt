@@ -1,9 +1,6 @@
 //! What is said of a core that doesn't execute what is scheduled. Times are in ticks.
 ghost use Rattle.std.specs.Prelude.{◌≡◌, ◌<◌, ◌++◌, length, codes, IfOk, IfSome, OnOk};
-ghost use Rattle.cl_runs.specs.Run.{IsInForm};
-ghost use Rattle.cl_runs.specs.SystemOf.{system_of};
-ghost use Rattle.cl_runs.specs.Table.{IsLawful};
-ghost use Rattle.cl_runs.specs.Legal.{IsLegal};
+ghost use Rattle.cl_runs.specs.{Run.IsInForm, SystemOf.system_of, Table.IsLawful, Legal.IsLegal};
 ghost use Rattle.cl_check.specs.declared.run_fault.Rule.TheVariants.{Schedule};
 ghost use Rattle.cl_traces.specs.SaidOfRules.{found_and_wanted, entry_words, TellsOfRule};
 

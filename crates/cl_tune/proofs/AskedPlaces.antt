@@ -5,21 +5,13 @@ use Rattle.std.specs.Prelude.{All, ◌==◌, is_some, remove, slice_set}
 use Rattle.std.proofs.lemmas.Bool.{lt-ltb}
 use Rattle.std.proofs.lemmas.List.{get_or-map, length-map}
 use Rattle.std.proofs.lemmas.List.Elements.{All-filter}
-use Rattle.cl_model.specs.declared.limits.TheConstants.{MOST_TICKS, MOST_TASKS_OF_CORE}
-use Rattle.cl_model.specs.declared.model.SystemModel.{SystemModel}
-use Rattle.cl_model.specs.ByNumber.{stimulus_of, deadline_of}
-use Rattle.cl_model.specs.Validity.{IsValid}
+use Rattle.cl_model.specs.{declared.{limits.TheConstants.{MOST_TICKS, MOST_TASKS_OF_CORE}, model.SystemModel.SystemModel}, ByNumber.{stimulus_of, deadline_of}, Validity.IsValid}
 use Rattle.cl_model.proofs.ValidTasks.{kind_in_range, early_enough}
-use Rattle.cl_runs.specs.SystemOf.{system_of}
-use Rattle.cl_runs.specs.TaskTiming.{timing_at}
-use Rattle.cl_resp.specs.declared.question.Above.{Above}
-use Rattle.cl_resp.specs.declared.question.Question.{Question}
-use Rattle.cl_resp.specs.Question.{taken_by, IsQuestionInRange}
-use Rattle.cl_resp.specs.Response.{response_to}
+use Rattle.cl_runs.specs.{SystemOf.system_of, TaskTiming.timing_at}
+use Rattle.cl_resp.specs.{declared.question.{Above.Above, Question.Question}, Question.{taken_by, IsQuestionInRange}, Response.response_to}
 use Rattle.cl_resp.proofs.StimulusKinds.{least_few}
 use Rattle.cl_tune.specs.Inner.Filling.{without, AreDistinct, question_over, question_below, spans_few, spans_few_of, fits}
-use Rattle.cl_tune.proofs.OthersTaken.{removed_is, next_is, few_without}
-use Rattle.cl_tune.proofs.QuestionRanges.{shorter_without, question_in_range}
+use Rattle.cl_tune.proofs.{OthersTaken.{removed_is, next_is, few_without}, QuestionRanges.{shorter_without, question_in_range}}
 
 -- what tasks take, by number
 abbrev pub all_taken : SystemModel → (tasks : List ℕ) → List Above

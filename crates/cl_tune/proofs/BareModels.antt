@@ -5,27 +5,12 @@ use Rattle.std.specs.Prelude.{All}
 use Rattle.std.specs.List.{list_any}
 use Rattle.std.proofs.lemmas.Bool.{le-ltb}
 use Rattle.std.proofs.lemmas.Simd.{map-map}
-use Rattle.cl_model.specs.declared.model.SystemModel.{SystemModel}
+use Rattle.cl_model.specs.{declared.{model.SystemModel.SystemModel, refusal.{Code.TheVariants.{M36, M42}, Refusal.Refusal}, task.{RunnableDef.RunnableDef, TaskDef.TaskDef}}, ByNumber.{no_task, no_runnable}, Named.{kind_named, tasks_on}, NamedAlike.{named_runnable, named_task}}
+use Rattle.cl_model.specs.{NamedAlike.AreNamedAlike, Place.{entry_of, at_key, at_sub}, Ranges.IsInRange, Refusals.{when, each}, ValidNames.stimulus_checks, ValidTasks.{task_key, late_check, release_check, times_check, is_outpaced_by, deadline_check, deadline_checks}, Validity.refusals_of}
+use Rattle.cl_model.specs.Validity.{IsValid}
 use Rattle.cl_model.specs.declared.place.Part.TheVariants as part
 use Rattle.cl_model.specs.declared.place.Key.TheVariants as key
-use Rattle.cl_model.specs.declared.refusal.Code.TheVariants.{M36, M42}
-use Rattle.cl_model.specs.declared.refusal.Refusal.{Refusal}
-use Rattle.cl_model.specs.declared.task.RunnableDef.{RunnableDef}
-use Rattle.cl_model.specs.declared.task.TaskDef.{TaskDef}
-use Rattle.cl_model.specs.ByNumber.{no_task, no_runnable}
-use Rattle.cl_model.specs.Named.{kind_named, tasks_on}
-use Rattle.cl_model.specs.NamedAlike.{named_runnable, named_task, AreNamedAlike}
-use Rattle.cl_model.specs.Place.{entry_of, at_key, at_sub}
-use Rattle.cl_model.specs.Ranges.{IsInRange}
-use Rattle.cl_model.specs.Refusals.{when, each}
-use Rattle.cl_model.specs.ValidNames.{stimulus_checks}
-use Rattle.cl_model.specs.ValidTasks.{task_key, late_check, release_check, times_check, is_outpaced_by, deadline_check, deadline_checks}
-use Rattle.cl_model.specs.Validity.{refusals_of, IsValid}
-use Rattle.cl_model.proofs.ChecksLeft.{placed, on_core_same, outpaced_same, times_checks, timing_check, task_passes, deadline_none, times_left_of}
-use Rattle.cl_model.proofs.EachFacts.{each_nothing}
-use Rattle.cl_model.proofs.NamedAlike.{at_same, length_same, maps_through}
-use Rattle.cl_model.proofs.NoRefusals.{none_in_order}
-use Rattle.cl_model.proofs.PassedChecks.{stimuli_pass}
+use Rattle.cl_model.proofs.{ChecksLeft.{placed, on_core_same, outpaced_same, times_checks, timing_check, task_passes, deadline_none, times_left_of}, EachFacts.each_nothing, NamedAlike.{at_same, length_same, maps_through}, NoRefusals.none_in_order, PassedChecks.stimuli_pass}
 
 abbrev pub bare_runnable : RunnableDef → RunnableDef
 bare_runnable runnable = record runnable { greatest = runnable.least }

@@ -4,20 +4,11 @@ use Rattle.std.specs.Prelude.{All, ◌==◌}
 use Rattle.std.specs.List.{range_with_len}
 use Rattle.std.specs.List.Sorted.{IsPermutation}
 use Rattle.std.proofs.lemmas.Bool.{eqb-true, eq-eqb, and_parts, and_from}
-use Rattle.cl_model.specs.declared.model.SystemModel.{SystemModel}
-use Rattle.cl_model.specs.ByNumber.{core_of, tasks_of_core}
-use Rattle.cl_model.specs.Validity.{IsValid}
-use Rattle.cl_runs.specs.Pattern.{IsPattern}
-use Rattle.cl_runs.specs.SystemOf.{system_of}
-use Rattle.cl_runs.specs.TaskTiming.{System, timing_at}
+use Rattle.cl_model.specs.{declared.model.SystemModel.SystemModel, ByNumber.{core_of, tasks_of_core}, Validity.IsValid}
+use Rattle.cl_runs.specs.{Pattern.IsPattern, SystemOf.system_of, TaskTiming.{System, timing_at}}
 use Rattle.cl_runs.proofs.ModelSystem.{count_is, system_sound}
-use Rattle.cl_tune.specs.BestOrders.{IsBestOrder, HasNoOrder}
-use Rattle.cl_tune.specs.Inner.Filling.{best_order, AreDistinct}
-use Rattle.cl_tune.specs.Orders.{IsPassing, IsPassingOrder}
-use Rattle.cl_tune.proofs.Members.{has, has_filter, HaveSame, permutes, permuted_same, permuted_distinct}
-use Rattle.cl_tune.proofs.FilledOrders.{AreAscending, ascending_distinct, ascending_filter, ascending_range, AllFit, IsOrderOf, IsFirstFit, IsAnswer, filled}
-use Rattle.cl_tune.proofs.NewPriorities.{ordered_system}
-use Rattle.cl_tune.proofs.Timings.{core_is}
+use Rattle.cl_tune.specs.{BestOrders.{IsBestOrder, HasNoOrder}, Inner.Filling.{best_order, AreDistinct}, Orders.{IsPassing, IsPassingOrder}}
+use Rattle.cl_tune.proofs.{Members.{has, has_filter, HaveSame, permutes, permuted_same, permuted_distinct}, FilledOrders.{AreAscending, ascending_distinct, ascending_filter, ascending_range, AllFit, IsOrderOf, IsFirstFit, IsAnswer, filled}, NewPriorities.ordered_system, Timings.core_is}
 use Rattle.cl_tune.proofs.UnderOrders.{range_below, range_has, passing_fits, fitting_passes}
 
 module _ (model : SystemModel) (valid : IsValid model) (core : ℕ) where

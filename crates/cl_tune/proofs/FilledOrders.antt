@@ -6,16 +6,12 @@ use Rattle.std.specs.Prelude.{◌==◌, filter, find}
 use Rattle.std.specs.List.{range_with_len}
 use Rattle.std.specs.Option.{option_map, option_and_then}
 use Rattle.std.proofs.lemmas.Bool.{true≢false, false≢true, eqb-true, and_parts, and_right, cases_order, false_from_ne_true, not_from_true, not_from_false, cond-true, cond-false}
-use Rattle.cl_model.specs.declared.model.SystemModel.{SystemModel}
-use Rattle.cl_model.specs.ByNumber.{core_of, tasks_of_core}
-use Rattle.cl_runs.specs.Pattern.{IsPattern}
-use Rattle.cl_runs.specs.TaskTiming.{System, timing_at}
+use Rattle.cl_model.specs.{declared.model.SystemModel.SystemModel, ByNumber.{core_of, tasks_of_core}}
+use Rattle.cl_runs.specs.{Pattern.IsPattern, TaskTiming.{System, timing_at}}
 use Rattle.cl_runs.proofs.FirstFound.{none_passes}
 use Rattle.cl_resp.specs.Question.{longest_hold}
-use Rattle.cl_tune.specs.Dictionary.{ComesNoLater}
-use Rattle.cl_tune.specs.Inner.Filling.{without, fits_below, fits, best_order, AreDistinct}
-use Rattle.cl_tune.proofs.Members.{has, has_itself, has_head, has_more, has_cases, has_filter, HaveSame, all_at, distinct_filter, without_head, without_other, length_without, same_without, lengths_agree}
-use Rattle.cl_tune.proofs.FitsBelow.{fits_same, fits_moved_up}
+use Rattle.cl_tune.specs.{Dictionary.ComesNoLater, Inner.Filling.{without, fits_below, fits, best_order, AreDistinct}}
+use Rattle.cl_tune.proofs.{Members.{has, has_itself, has_head, has_more, has_cases, has_filter, HaveSame, all_at, distinct_filter, without_head, without_other, length_without, same_without, lengths_agree}, FitsBelow.{fits_same, fits_moved_up}}
 
 -- ---- ascending lists
 

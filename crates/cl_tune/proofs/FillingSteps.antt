@@ -1,6 +1,6 @@
 -- One step of filling an order: the first task that fits is placed, and the rest is the order of the unplaced.
 use Rattle.std.proofs.Common.{◌≡◌, ℕ, suc, Bool, max, Option, Some, None, List, [], ◌∷◌, ◌++◌, refl, sym, ap, ◌∙◌, subst, append_assoc}
-use Rattle.std.specs.Prelude.{All, Contains, find}
+use Rattle.std.specs.Prelude.{All, find}
 use Rattle.std.specs.Option.{option_map, option_and_then}
 use Rattle.std.proofs.lemmas.List.{append-nil}
 use Rattle.cl_runs.specs.TaskTiming.{System, timing_at}
@@ -13,11 +13,6 @@ pub found_known : (P : ℕ → Type 0) (test : ℕ → Bool) (items : List ℕ) 
 found_known P test items x all is =
     let found = first_found test items x is in
     subst P (found.is 0) (all found.place 0 found.within)
-
-pub found_contained : (test : ℕ → Bool) (items : List ℕ) (x : ℕ) → find test items ≡ Some x → Contains items x
-found_contained test items x is =
-    let found = first_found test items x is in
-    (found.place, found.within, found.is x)
 
 -- the rest of an order is put behind what is placed already
 abbrev pub behind : List ℕ → Option (List ℕ) → Option (List ℕ)

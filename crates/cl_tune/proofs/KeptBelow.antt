@@ -4,51 +4,22 @@ use Rattle.std.specs.Prelude.{All}
 use Rattle.std.proofs.lemmas.Bool.{true≢false, false≢true, cases_lt, leb-true, le-leb}
 use Rattle.std.proofs.lemmas.List.{length-map, get_or_past}
 use Rattle.std.proofs.lemmas.List.Elements.{All-nil, All-cons, All-head, All-tail}
-use Rattle.cl_model.specs.declared.chain.LengthKind.TheVariants.{Reaction, Age, Reduced}
-use Rattle.cl_model.specs.declared.chain.RequirementKind.{RequirementKind}
-use Rattle.cl_model.specs.declared.chain.RequirementKind.TheVariants.{Length, Delay}
-use Rattle.cl_model.specs.declared.chain.RequirementDef.{RequirementDef}
-use Rattle.cl_model.specs.declared.group.Group.{Group}
-use Rattle.cl_model.specs.declared.model.SystemModel.{SystemModel}
-use Rattle.cl_model.specs.ByNumber.{chain_at}
-use Rattle.cl_model.specs.Groups.{steps_of, groups_at}
-use Rattle.cl_model.specs.Ranges.{IsInRange}
-use Rattle.cl_model.specs.Validity.{IsValid}
+use Rattle.cl_model.specs.{declared.{chain.{LengthKind.TheVariants.{Reaction, Age, Reduced}, RequirementKind.{RequirementKind, TheVariants.{Length, Delay}}, RequirementDef.RequirementDef}, group.Group.Group, model.SystemModel.SystemModel}, ByNumber.chain_at, Groups.{steps_of, groups_at}}
+use Rattle.cl_model.specs.{Ranges.IsInRange, Validity.IsValid}
 use Rattle.cl_model.proofs.GroupFacts.{groups_at_are, groups_at_some}
-use Rattle.cl_runs.specs.SystemOf.{system_of}
+use Rattle.cl_runs.specs.{SystemOf.system_of, Requirements.required_chain}
 use Rattle.cl_runs.proofs.ModelSystem.{count_is, system_sound}
-use Rattle.cl_runs.specs.Requirements.{required_chain}
-use Rattle.cl_bound.specs.declared.answer.TaskAnswer.{TaskAnswer}
+use Rattle.cl_bound.specs.{declared.answer.TaskAnswer.TaskAnswer, Answers.{answer_to, answers_of, is_late, NoneIsLate}, Bounds.{Lengths, AreBoundsOf, settled_timings, bounds_of}, NoGreater.AreNoGreater}
 use Rattle.cl_bound.specs.declared.answer.TaskAnswer.TheVariants as answers
-use Rattle.cl_bound.specs.Answers.{answer_to, answers_of, is_late, NoneIsLate}
-use Rattle.cl_bound.specs.Bounds.{Lengths, AreBoundsOf, settled_timings, bounds_of}
-use Rattle.cl_bound.specs.NoGreater.{AreNoGreater}
 use Rattle.cl_bound.proofs.SettledChains.{settled_sums}
-use Rattle.cl_exact.specs.TimedPeriodic.{is_timed_periodic_chain}
-use Rattle.cl_exact.proofs.ExactOnce.{exact_unique, within_or_past}
-use Rattle.cl_exact.specs.ExactLengths.{Witnesses, AreExactLengths}
-use Rattle.cl_exact.specs.Hyperperiod.{IsWithinLimit, IsPastLimit}
-use Rattle.cl_exact.specs.Rhythms.{rhythm_of, rhythms}
-use Rattle.cl_exact.proofs.SameRhythms.{same_timed, within_also, past_also, lengths_also}
-use Rattle.cl_analyse.specs.declared.findings.ChainAnswer.{ChainAnswer}
+use Rattle.cl_exact.specs.{TimedPeriodic.is_timed_periodic_chain, ExactLengths.{Witnesses, AreExactLengths}, Hyperperiod.{IsWithinLimit, IsPastLimit}, Rhythms.{rhythm_of, rhythms}}
+use Rattle.cl_exact.proofs.{ExactOnce.{exact_unique, within_or_past}, SameRhythms.{same_timed, within_also, past_also, lengths_also}}
+use Rattle.cl_analyse.specs.{declared.findings.{ChainAnswer.ChainAnswer, ExactAnswer.{ExactAnswer, TheVariants.{Exact, Past, NotTimed, ChainLate}}, Findings.Findings, Verdict.{Verdict, TheVariants.{Met, Unshown}}}, ChainAnswers.{first_late, chain_answer, chain_answer_of, chain_answers_of}}
+use Rattle.cl_analyse.specs.{ChainAnswers.{chain_answer_at, exact_answer_at, IsTimelyAnswer, IsExactAnswer}, Findings.AreFindings, Verdicts.{bound_of_kind, witness_of_kind, limited_bound, limited_length, required_bound, required_exact, verdict_on, verdict_of, is_met}}
 use Rattle.cl_analyse.specs.declared.findings.ChainAnswer.TheVariants as bounded
-use Rattle.cl_analyse.specs.declared.findings.ExactAnswer.{ExactAnswer}
-use Rattle.cl_analyse.specs.declared.findings.ExactAnswer.TheVariants.{Exact, Past, NotTimed, ChainLate}
-use Rattle.cl_analyse.specs.declared.findings.Findings.{Findings}
-use Rattle.cl_analyse.specs.declared.findings.Verdict.{Verdict}
-use Rattle.cl_analyse.specs.declared.findings.Verdict.TheVariants.{Met, Unshown}
-use Rattle.cl_analyse.specs.ChainAnswers.{first_late, chain_answer, chain_answer_of, chain_answers_of, chain_answer_at, exact_answer_at, IsTimelyAnswer, IsExactAnswer}
-use Rattle.cl_analyse.specs.Findings.{AreFindings}
-use Rattle.cl_analyse.specs.Verdicts.{bound_of_kind, witness_of_kind, limited_bound, limited_length, required_bound, required_exact, verdict_on, verdict_of, is_met}
-use Rattle.cl_analyse.proofs.FirstLate.{none_late}
-use Rattle.cl_analyse.proofs.SafeFindings.{answer_of_chain, chain_settled}
-use Rattle.cl_analyse.proofs.SomeFindings.{some_findings}
-use Rattle.cl_tune.specs.Headroom.{Keeps}
-use Rattle.cl_tune.specs.Scaled.{scaled}
-use Rattle.cl_tune.proofs.BareChains.{groups_alike}
-use Rattle.cl_tune.proofs.ScaledValid.{scaled_alike, scaled_valid}
-use Rattle.cl_tune.proofs.ScaledAnswers.{all_in_time, range_stays}
-use Rattle.cl_tune.proofs.ScaledBounds.{patterns_same, deadlines_same, accesses_same, bounds_sooner}
+use Rattle.cl_analyse.proofs.{FirstLate.none_late, SafeFindings.{answer_of_chain, chain_settled}, SomeFindings.some_findings}
+use Rattle.cl_tune.specs.{Headroom.Keeps, Scaled.scaled}
+use Rattle.cl_tune.proofs.{BareChains.groups_alike, ScaledValid.{scaled_alike, scaled_valid}, ScaledAnswers.{all_in_time, range_stays}, ScaledBounds.{patterns_same, deadlines_same, accesses_same, bounds_sooner}}
 
 -- ---- groups
 

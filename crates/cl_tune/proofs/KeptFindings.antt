@@ -1,17 +1,11 @@
 -- What is asked of the findings of a scaled model is what keeping asks.
 use Rattle.std.proofs.Common.{◌≡◌, true, false, ℕ, subst}
 use Rattle.std.specs.Prelude.{All}
-use Rattle.cl_model.specs.declared.model.SystemModel.{SystemModel}
-use Rattle.cl_model.specs.Ranges.{IsInRange}
-use Rattle.cl_bound.specs.declared.answer.TaskAnswer.{TaskAnswer}
-use Rattle.cl_bound.specs.Answers.{is_late}
-use Rattle.cl_analyse.specs.declared.findings.Findings.{Findings}
-use Rattle.cl_analyse.specs.declared.findings.Verdict.{Verdict}
-use Rattle.cl_analyse.specs.Findings.{AreFindings}
+use Rattle.cl_model.specs.{declared.model.SystemModel.SystemModel, Ranges.IsInRange}
+use Rattle.cl_bound.specs.{declared.answer.TaskAnswer.TaskAnswer, Answers.is_late}
+use Rattle.cl_analyse.specs.{declared.findings.{Findings.Findings, Verdict.Verdict}, Findings.AreFindings, Verdicts.is_met}
 use Rattle.cl_analyse.proofs.SafeFindings.{one_findings}
-use Rattle.cl_analyse.specs.Verdicts.{is_met}
-use Rattle.cl_tune.specs.Headroom.{Keeps}
-use Rattle.cl_tune.specs.Scaled.{scaled}
+use Rattle.cl_tune.specs.{Headroom.Keeps, Scaled.scaled}
 
 -- no task is late, and each requirement is met
 abbrev pub IsKept : Findings → Type 0

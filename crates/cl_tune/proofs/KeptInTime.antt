@@ -1,17 +1,11 @@
 -- What the answers on orders and percentages promise of every legal run.
 use Rattle.std.proofs.Common.{ℕ, List}
 use Rattle.std.specs.Prelude.{slice_index}
-use Rattle.cl_model.specs.declared.model.SystemModel.{SystemModel}
-use Rattle.cl_model.specs.Validity.{IsValid}
+use Rattle.cl_model.specs.{declared.model.SystemModel.SystemModel, Validity.IsValid}
 use Rattle.cl_runs.specs.Requirements.{MeetsDeadlines, IsInTime}
 use Rattle.cl_analyse.proofs.InTime.{deadlines_met, in_time}
-use Rattle.cl_tune.specs.BestOrders.{AreBestPriorities}
-use Rattle.cl_tune.specs.Headroom.{Keeps}
-use Rattle.cl_tune.specs.Priorities.{with_priorities}
-use Rattle.cl_tune.specs.Scaled.{scaled}
-use Rattle.cl_tune.proofs.ReorderedModels.{all_in_time}
-use Rattle.cl_tune.proofs.ReorderedValid.{reordered_valid}
-use Rattle.cl_tune.proofs.ScaledValid.{scaled_valid}
+use Rattle.cl_tune.specs.{BestOrders.AreBestPriorities, Headroom.Keeps, Priorities.with_priorities, Scaled.scaled}
+use Rattle.cl_tune.proofs.{ReorderedModels.all_in_time, ReorderedValid.reordered_valid, ScaledValid.scaled_valid}
 
 pub reordered_in_time : (model : SystemModel) → IsValid model → (priorities : List ℕ) → AreBestPriorities model priorities
     → MeetsDeadlines (with_priorities model (slice_index priorities))

@@ -1,6 +1,6 @@
 -- Lists of numbers that stand in them once: which numbers they have, and sums over them.
 use Rattle.std.proofs.Common.{◌≡◌, ℕ, suc, ◌+◌, ◌≤◌, ◌⊎◌, inl, inr, Bool, true, false, cond, not, ◌&&◌, ◌||◌, List, [], ◌∷◌, ◌++◌, length, get_or, refl, sym, ap, ◌∙◌, subst, arith}
-use Rattle.std.specs.Prelude.{All, ◌==◌, filter, sum_by, count_by, Contains}
+use Rattle.std.specs.Prelude.{All, ◌==◌, filter, sum_by, count_by}
 use Rattle.std.specs.List.{list_any}
 use Rattle.std.specs.List.Sorted.{IsPermutation}
 use Rattle.std.proofs.lemmas.Bool.{true≢false, false≢true, eqb-true, eq-eqb, and_right, or_parts, or_cases, false_from_ne_true, not_from_true, not_from_false, cond-true, cond-false}
@@ -28,9 +28,6 @@ has_more x y xs is = elim (y == x) as (λ b. (b || has x xs) ≡ true) [ true �
 -- a number in a longer list is the head or stands in the rest
 pub has_cases : (x y : ℕ) (xs : List ℕ) → has x (y ∷ xs) ≡ true → (y ≡ x) ⊎ (has x xs ≡ true)
 has_cases x y xs is = elim (or_cases (y == x) (has x xs) is) [ inl e ↦ inl (eqb-true y x e) | inr rest ↦ inr rest ]
-
-pub has_contained : (x : ℕ) (xs : List ℕ) → Contains xs x → has x xs ≡ true
-has_contained x xs at = list_any_at (λ y. y == x) xs at.0 x at.1 (eq-eqb (get_or xs at.0 x) x at.2)
 
 pub all_at : (P : ℕ → Type 0) (xs : List ℕ) (x : ℕ) → All P xs → has x xs ≡ true → P x
 all_at P [] x all is = absurd (false≢true is)

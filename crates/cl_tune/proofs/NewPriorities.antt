@@ -4,14 +4,10 @@ use Rattle.std.specs.Prelude.{◌==◌, if◌then◌else◌}
 use Rattle.std.specs.List.{range_with_len}
 use Rattle.std.proofs.lemmas.List.{same_lists, get_or_default}
 use Rattle.std.proofs.lemmas.List.FromFn.{get_or-map-range_with_len, length-map-range_with_len}
-use Rattle.cl_model.specs.declared.model.SystemModel.{SystemModel}
-use Rattle.cl_model.specs.declared.task.TaskDef.{TaskDef}
-use Rattle.cl_model.specs.ByNumber.{no_task}
-use Rattle.cl_runs.specs.SystemOf.{timing_of, system_of}
-use Rattle.cl_runs.specs.TaskTiming.{Timing, System, timing_at, no_timing}
+use Rattle.cl_model.specs.{declared.{model.SystemModel.SystemModel, task.TaskDef.TaskDef}, ByNumber.no_task}
+use Rattle.cl_runs.specs.{SystemOf.{timing_of, system_of}, TaskTiming.{Timing, System, timing_at, no_timing}}
 use Rattle.cl_runs.proofs.ModelSystem.{timing_is, count_is}
-use Rattle.cl_tune.specs.Orders.{priority_in, priority_under}
-use Rattle.cl_tune.specs.Priorities.{task_with, with_priorities, HasPriorities}
+use Rattle.cl_tune.specs.{Orders.{priority_in, priority_under}, Priorities.{task_with, with_priorities, HasPriorities}}
 
 -- ---- a system with other priorities
 

@@ -4,24 +4,12 @@ use Rattle.std.specs.Prelude.{All, IfSome, IsNone, ◌↔◌}
 use Rattle.std.proofs.lemmas.Bool.{true≢false, false≢true, cases_lt, cases_eq, cases_order}
 use Rattle.std.proofs.lemmas.List.{length-map}
 use Rattle.std.proofs.lemmas.List.Elements.{All-nil, All-cons, All-head, All-tail}
-use Rattle.cl_model.specs.declared.limits.TheConstants.{MOST_TICKS, MOST_PRIORITY, MOST_RUNNABLES, MOST_ACCESSES}
-use Rattle.cl_model.specs.declared.model.SystemModel.{SystemModel}
-use Rattle.cl_model.specs.declared.task.RunnableDef.{RunnableDef}
-use Rattle.cl_model.specs.declared.task.TaskDef.{TaskDef}
-use Rattle.cl_model.specs.Ranges.{IsTime, IsRunnableInRange, IsTaskInRange, IsInRange}
-use Rattle.cl_model.specs.Validity.{IsValid}
-use Rattle.cl_bound.specs.declared.answer.TaskAnswer.{TaskAnswer}
-use Rattle.cl_bound.specs.Answers.{is_late}
-use Rattle.cl_analyse.specs.declared.findings.Findings.{Findings}
-use Rattle.cl_analyse.specs.declared.findings.Verdict.{Verdict}
+use Rattle.cl_model.specs.{declared.{limits.TheConstants.{MOST_TICKS, MOST_PRIORITY, MOST_RUNNABLES, MOST_ACCESSES}, model.SystemModel.SystemModel, task.{RunnableDef.RunnableDef, TaskDef.TaskDef}}, Ranges.{IsTime, IsRunnableInRange, IsTaskInRange, IsInRange}, Validity.IsValid}
+use Rattle.cl_bound.specs.{declared.answer.TaskAnswer.TaskAnswer, Answers.is_late}
+use Rattle.cl_analyse.specs.{declared.findings.{Findings.Findings, Verdict.Verdict}, Verdicts.is_met}
 use Rattle.cl_analyse.proofs.SomeFindings.{some_findings}
-use Rattle.cl_analyse.specs.Verdicts.{is_met}
-use Rattle.cl_tune.specs.declared.percent.TheConstants.{MOST_PERCENT}
-use Rattle.cl_tune.specs.Headroom.{Keeps, IsGreatestKept, IsHeadroom, SmallerKeep}
-use Rattle.cl_tune.specs.Scaled.{scaled_task, scaled}
-use Rattle.cl_tune.proofs.KeptBelow.{kept_below}
-use Rattle.cl_tune.proofs.KeptFindings.{IsKept, keeping, kept_of}
-use Rattle.cl_tune.proofs.ScaledValid.{scaled_valid}
+use Rattle.cl_tune.specs.{declared.percent.TheConstants.MOST_PERCENT, Headroom.{Keeps, IsGreatestKept, IsHeadroom, SmallerKeep}, Scaled.{scaled_task, scaled}}
+use Rattle.cl_tune.proofs.{KeptBelow.kept_below, KeptFindings.{IsKept, keeping, kept_of}, ScaledValid.scaled_valid}
 
 -- ---- what is decided
 

@@ -5,17 +5,10 @@ use Rattle.std.specs.List.{range_with_len}
 use Rattle.std.proofs.lemmas.Bool.{cases_eq, cases_order}
 use Rattle.std.proofs.lemmas.List.{same_lists, get_or_default}
 use Rattle.std.proofs.lemmas.List.FromFn.{get_or-map-range_with_len, length-map-range_with_len}
-use Rattle.cl_model.specs.declared.model.SystemModel.{SystemModel}
-use Rattle.cl_model.specs.ByNumber.{core_of, tasks_of_core}
-use Rattle.cl_model.specs.Validity.{IsValid}
+use Rattle.cl_model.specs.{declared.model.SystemModel.SystemModel, ByNumber.{core_of, tasks_of_core}, Validity.IsValid}
 use Rattle.cl_model.proofs.NamesKnown.{core_within}
 use Rattle.cl_runs.specs.SystemOf.{system_of}
-use Rattle.cl_tune.specs.declared.answer.OrderAnswer.{OrderAnswer}
-use Rattle.cl_tune.specs.declared.answer.OrderAnswer.TheVariants.{Order, NoOrder}
-use Rattle.cl_tune.specs.Dictionary.{ComesNoLater}
-use Rattle.cl_tune.specs.Orders.{priority_in}
-use Rattle.cl_tune.specs.BestOrders.{IsBestOrder, AreBestPriorities, IsFirstWithoutOrder, IsOrderAnswer}
-use Rattle.cl_tune.specs.Inner.Filling.{best_order}
+use Rattle.cl_tune.specs.{declared.answer.OrderAnswer.{OrderAnswer, TheVariants.{Order, NoOrder}}, Dictionary.ComesNoLater, Orders.priority_in, BestOrders.{IsBestOrder, AreBestPriorities, IsFirstWithoutOrder, IsOrderAnswer}, Inner.Filling.best_order}
 use Rattle.cl_tune.proofs.CoreOrders.{filled_is_best, none_filled}
 
 -- ---- a core has but one best order

@@ -5,29 +5,14 @@ use Rattle.std.specs.Prelude.{All, ◌==◌, filter, slice_index}
 use Rattle.std.specs.List.{range_with_len}
 use Rattle.std.proofs.lemmas.Bool.{eqb-true, cond-true, cond-false, and_parts, and_left, cases_Bool, eq-eqb}
 use Rattle.std.proofs.lemmas.List.Elements.{All-head, All-tail}
-use Rattle.cl_model.specs.declared.model.SystemModel.{SystemModel}
-use Rattle.cl_model.specs.Timing.{greatest_jitter}
-use Rattle.cl_model.specs.ByNumber.{core_of, tasks_of_core}
-use Rattle.cl_model.specs.Validity.{IsValid}
-use Rattle.cl_model.specs.ValidTasks.{spans_too_many}
+use Rattle.cl_model.specs.{declared.model.SystemModel.SystemModel, Timing.greatest_jitter, ByNumber.{core_of, tasks_of_core}, Validity.IsValid, ValidTasks.spans_too_many, Holds.greatest_by}
 use Rattle.cl_model.proofs.NamesKnown.{core_within}
-use Rattle.cl_model.specs.Holds.{greatest_by}
-use Rattle.cl_runs.specs.SystemOf.{system_of}
-use Rattle.cl_runs.specs.TaskTiming.{Timing, System, timing_at}
-use Rattle.cl_runs.specs.Priorities.{is_above, may_block}
+use Rattle.cl_runs.specs.{SystemOf.system_of, TaskTiming.{Timing, System, timing_at}, Priorities.{is_above, may_block}}
 use Rattle.cl_runs.proofs.ModelSystem.{count_is}
-use Rattle.cl_resp.specs.declared.question.Question.{Question}
-use Rattle.cl_resp.specs.Question.{greatest_execution, longest_hold, block_of, taken_by, question_of}
-use Rattle.cl_resp.specs.Response.{response_to}
+use Rattle.cl_resp.specs.{declared.question.Question.Question, Question.{greatest_execution, longest_hold, block_of, taken_by, question_of}, Response.response_to}
 use Rattle.cl_bound.specs.Answers.{answer_with, answer_to, is_late}
-use Rattle.cl_tune.specs.BestOrders.{AreBestPriorities, HasBestPriorities}
-use Rattle.cl_tune.specs.Orders.{priority_in, IsPassing}
-use Rattle.cl_tune.specs.Priorities.{with_priorities}
-use Rattle.cl_tune.proofs.Members.{has, has_place, all_at, permuted_same}
-use Rattle.cl_tune.proofs.CoreOrders.{task_there}
-use Rattle.cl_tune.proofs.NewPriorities.{timing_with, system_with, count_with, timing_with_is, priority_within, given_system, ordered_system}
-use Rattle.cl_tune.proofs.Timings.{core_is}
-use Rattle.cl_tune.proofs.UnderOrders.{range_below}
+use Rattle.cl_tune.specs.{BestOrders.{AreBestPriorities, HasBestPriorities}, Orders.{priority_in, IsPassing}, Priorities.with_priorities}
+use Rattle.cl_tune.proofs.{Members.{has, has_place, all_at, permuted_same}, CoreOrders.task_there, NewPriorities.{timing_with, system_with, count_with, timing_with_is, priority_within, given_system, ordered_system}, Timings.core_is, UnderOrders.range_below}
 
 -- ---- lists that differ only where a test fails
 

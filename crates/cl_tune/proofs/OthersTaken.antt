@@ -1,23 +1,15 @@
 -- What all tasks of a list but for one take, where no task stands in the list twice, and which deadlines span few least
 -- distances of them. Times are in ticks.
-use Rattle.std.proofs.Common.{◌≡◌, ℕ, zero, suc, ◌+◌, ◌-◌, ◌*◌, ◌<◌, ◌≤◌, min, Bool, true, false, cond, not, ◌&&◌, inl, inr, nat_lt, nat_le, List, [], ◌∷◌, length, get_or, map, refl, sym, ap, ◌∙◌, arith}
+use Rattle.std.proofs.Common.{◌≡◌, ℕ, zero, suc, ◌+◌, ◌*◌, ◌<◌, min, Bool, true, false, cond, not, ◌&&◌, inl, inr, nat_lt, nat_le, List, [], ◌∷◌, length, get_or, map, refl, sym, ap, ◌∙◌, arith}
 use Rattle.std.specs.Prelude.{◌==◌, remove, slice_set}
 use Rattle.std.specs.List.{list_all}
 use Rattle.std.proofs.lemmas.Bool.{true≢false, false_from_ne_true, eqb-true, eq-eqb, cases_lt, lt-ltb, le-ltb, le-leb, lt-leb}
 use Rattle.std.proofs.lemmas.List.Folds.{list_any_at}
-use Rattle.cl_model.specs.declared.limits.TheConstants.{MOST_DISTANCES}
-use Rattle.cl_model.specs.declared.model.SystemModel.{SystemModel}
-use Rattle.cl_model.specs.declared.stimulus.StimulusKind.{StimulusKind}
-use Rattle.cl_model.specs.ByNumber.{stimulus_of, deadline_of}
-use Rattle.cl_model.specs.Timing.{least_distance, greatest_jitter}
-use Rattle.cl_model.specs.Validity.{IsValid}
-use Rattle.cl_model.specs.ValidTasks.{spans_too_many}
+use Rattle.cl_model.specs.{declared.{limits.TheConstants.MOST_DISTANCES, model.SystemModel.SystemModel, stimulus.StimulusKind.StimulusKind}, ByNumber.{stimulus_of, deadline_of}, Timing.{least_distance, greatest_jitter}, Validity.IsValid, ValidTasks.spans_too_many}
 use Rattle.cl_model.proofs.ValidTasks.{early_enough, released_before}
-use Rattle.cl_runs.specs.SystemOf.{system_of}
-use Rattle.cl_runs.specs.TaskTiming.{timing_at}
+use Rattle.cl_runs.specs.{SystemOf.system_of, TaskTiming.timing_at}
 use Rattle.cl_tune.specs.Inner.Filling.{without, AreDistinct, spans_few, spans_few_of}
-use Rattle.cl_tune.proofs.Members.{has, without_head, without_other}
-use Rattle.cl_tune.proofs.Timings.{pattern_is, deadline_is}
+use Rattle.cl_tune.proofs.{Members.{has, without_head, without_other}, Timings.{pattern_is, deadline_is}}
 
 -- ---- one place of a list
 
@@ -44,20 +36,7 @@ next_is (x ∷ []) place d within = absurd (omega (arith, within))
 next_is (x ∷ y ∷ ys) zero d within = refl
 next_is (x ∷ y ∷ ys) (suc place) d within = ap (λ zs. x ∷ zs) (next_is (y ∷ ys) place d (omega (arith, within)))
 
--- nothing changes past the end
-pub set_past : {X : Type 0} (xs : List X) (place : ℕ) (x : X) → length xs ≤ place → slice_set xs place x ≡ xs
-set_past [] place x past = refl
-set_past (y ∷ ys) zero x past = absurd (omega (arith, past))
-set_past (y ∷ ys) (suc place) x past = ap (λ zs. y ∷ zs) (set_past ys place x (omega (arith, past)))
-
 -- ---- deadlines
-
--- a sum is above a limit where one part reaches what the other leaves of it
-pub reaches : (limit jitter deadline : ℕ) → nat_lt limit (deadline + jitter) ≡ nat_le ((limit + 1) - jitter) deadline
-reaches limit jitter deadline = elim (cases_lt limit (deadline + jitter)) [
-  | inl lt ↦ lt-ltb limit (deadline + jitter) lt ∙ sym (le-leb ((limit + 1) - jitter) deadline (omega (arith, lt)))
-  | inr ge ↦ le-ltb limit (deadline + jitter) ge ∙ sym (lt-leb ((limit + 1) - jitter) deadline (omega (arith, ge)))
-]
 
 -- what lies below two numbers lies below the lesser one
 pub below_both : (n a b : ℕ) → (nat_lt n a && not (nat_le b n)) ≡ nat_lt n (min a b)

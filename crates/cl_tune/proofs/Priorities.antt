@@ -4,8 +4,7 @@ use Rattle.std.proofs.Common.{◌≡◌, ℕ, suc, ◌+◌, ◌<◌, ◌≤◌, 
 use Rattle.std.specs.Prelude.{◌==◌, unwrap_or}
 use Rattle.std.specs.List.{prefix_len}
 use Rattle.std.proofs.lemmas.Bool.{true≢false, false≢true, eqb-true, or_parts, lt-ltb, cond-true, cond-false, not_from_true, not_from_false, false_from_ne_true, or_left, or_right}
-use Rattle.cl_tune.specs.Orders.{priority_in}
-use Rattle.cl_tune.specs.Inner.Filling.{AreDistinct}
+use Rattle.cl_tune.specs.{Orders.priority_in, Inner.Filling.AreDistinct}
 use Rattle.cl_tune.proofs.Members.{has, has_itself, has_head, has_more, has_cases, has_append}
 
 -- the place of a number in a list, or the list's length

@@ -5,20 +5,13 @@ use Rattle.std.proofs.lemmas.Bool.{not-true, not_from_true, eq-eqb, ltb-false}
 use Rattle.std.proofs.lemmas.List.{length-map}
 use Rattle.std.proofs.lemmas.List.Elements.{All-map}
 use Rattle.std.proofs.lemmas.List.Sums.{AllPass-from_list_all}
-use Rattle.cl_model.specs.declared.limits.TheConstants.{MOST_TICKS, MOST_RUNNABLES, MOST_DISTANCES, MOST_TASKS_OF_CORE}
-use Rattle.cl_model.specs.declared.model.SystemModel.{SystemModel}
-use Rattle.cl_model.specs.declared.stimulus.StimulusKind.{StimulusKind}
-use Rattle.cl_model.specs.ByNumber.{stimulus_of}
-use Rattle.cl_model.specs.Timing.{least_distance, greatest_jitter}
-use Rattle.cl_model.specs.Validity.{IsValid}
+use Rattle.cl_model.specs.{declared.{limits.TheConstants.{MOST_TICKS, MOST_RUNNABLES, MOST_DISTANCES, MOST_TASKS_OF_CORE}, model.SystemModel.SystemModel, stimulus.StimulusKind.StimulusKind}, ByNumber.stimulus_of, Timing.{least_distance, greatest_jitter}, Validity.IsValid}
 use Rattle.cl_model.specs.ValidTasks.{spans_too_many}
 use Rattle.cl_model.proofs.ValidTasks.{kind_in_range, early_enough, some_time, little_time}
-use Rattle.cl_runs.specs.TaskTiming.{timing_at}
-use Rattle.cl_runs.specs.SystemOf.{system_of}
+use Rattle.cl_runs.specs.{TaskTiming.timing_at, SystemOf.system_of}
 use Rattle.cl_runs.proofs.ModelSystem.{count_is, system_sound}
 use Rattle.cl_resp.specs.Question.{longest_hold, taken_by, IsAboveInRange, IsQuestionInRange}
-use Rattle.cl_resp.proofs.StimulusKinds.{kind_of-as_stimulus, least_few}
-use Rattle.cl_resp.proofs.Filters.{shorter}
+use Rattle.cl_resp.proofs.{StimulusKinds.{kind_of-as_stimulus, least_few}, Filters.shorter}
 use Rattle.cl_tune.specs.Inner.Filling.{without, question_below, spans_few}
 use Rattle.cl_tune.proofs.Timings.{deadline_is, time_is, hold_is, hold_few}
 

@@ -2,17 +2,12 @@
 use Rattle.std.proofs.Common.{◌≡◌, ℕ, false, List, arith}
 use Rattle.std.specs.Prelude.{All, slice_index}
 use Rattle.std.proofs.lemmas.List.Elements.{All-map, All-from_get_or}
-use Rattle.cl_model.specs.declared.model.SystemModel.{SystemModel}
-use Rattle.cl_model.specs.Validity.{IsValid}
-use Rattle.cl_runs.specs.SystemOf.{system_of}
-use Rattle.cl_runs.specs.TaskTiming.{Timing, no_timing}
+use Rattle.cl_model.specs.{declared.model.SystemModel.SystemModel, Validity.IsValid}
+use Rattle.cl_runs.specs.{SystemOf.system_of, TaskTiming.{Timing, no_timing}}
 use Rattle.cl_runs.proofs.ModelSystem.{count_is}
-use Rattle.cl_bound.specs.declared.answer.TaskAnswer.{TaskAnswer}
-use Rattle.cl_bound.specs.Answers.{answer_to, answers_of, is_late}
-use Rattle.cl_tune.specs.BestOrders.{AreBestPriorities}
-use Rattle.cl_tune.specs.Priorities.{with_priorities}
-use Rattle.cl_tune.proofs.NewPriorities.{count_made}
-use Rattle.cl_tune.proofs.OrdersTogether.{pass_together}
+use Rattle.cl_bound.specs.{declared.answer.TaskAnswer.TaskAnswer, Answers.{answer_to, answers_of, is_late}}
+use Rattle.cl_tune.specs.{BestOrders.AreBestPriorities, Priorities.with_priorities}
+use Rattle.cl_tune.proofs.{NewPriorities.count_made, OrdersTogether.pass_together}
 
 module _ (model : SystemModel) (valid : IsValid model) (priorities : List ℕ) (best : AreBestPriorities model priorities) where
   abbrev made : SystemModel

@@ -4,23 +4,12 @@ use Rattle.std.proofs.Common.{◌≡◌, ℕ, ◌<◌, ◌≤◌, false, nat_lt,
 use Rattle.std.specs.Prelude.{◌==◌, slice_index}
 use Rattle.std.proofs.lemmas.Bool.{eq-eqb, lt-ltb, and_from}
 use Rattle.std.proofs.lemmas.List.Sorted.{length_permutation}
-use Rattle.cl_model.specs.declared.limits.TheConstants.{MOST_PRIORITY}
-use Rattle.cl_model.specs.declared.model.SystemModel.{SystemModel}
-use Rattle.cl_model.specs.declared.stimulus.StimulusKind.{StimulusKind}
-use Rattle.cl_model.specs.ByNumber.{core_of, stimulus_of, deadline_of, tasks_of_core}
-use Rattle.cl_model.specs.Validity.{IsValid}
-use Rattle.cl_model.specs.ValidTasks.{spans_too_many}
+use Rattle.cl_model.specs.{declared.{limits.TheConstants.MOST_PRIORITY, model.SystemModel.SystemModel, stimulus.StimulusKind.StimulusKind}, ByNumber.{core_of, stimulus_of, deadline_of, tasks_of_core}, Validity.IsValid, ValidTasks.spans_too_many}
 use Rattle.cl_model.proofs.CoreTasks.{few_tasks}
-use Rattle.cl_runs.specs.SystemOf.{system_of}
-use Rattle.cl_runs.specs.TaskTiming.{Timing, timing_at}
-use Rattle.cl_runs.specs.Priorities.{is_above}
+use Rattle.cl_runs.specs.{SystemOf.system_of, TaskTiming.{Timing, timing_at}, Priorities.is_above}
 use Rattle.cl_runs.proofs.ModelSystem.{count_is}
-use Rattle.cl_tune.specs.BestOrders.{AreBestPriorities}
-use Rattle.cl_tune.specs.Priorities.{with_priorities}
-use Rattle.cl_tune.proofs.NewPriorities.{timing_with, has_priorities}
-use Rattle.cl_tune.proofs.OrdersTogether.{order_at, in_order_at, pass_together}
-use Rattle.cl_tune.proofs.Priorities.{priority_few, priorities_apart}
-use Rattle.cl_tune.proofs.Timings.{core_is, pattern_is, deadline_is}
+use Rattle.cl_tune.specs.{BestOrders.AreBestPriorities, Priorities.with_priorities}
+use Rattle.cl_tune.proofs.{NewPriorities.{timing_with, has_priorities}, OrdersTogether.{order_at, in_order_at, pass_together}, Priorities.{priority_few, priorities_apart}, Timings.{core_is, pattern_is, deadline_is}}
 
 module _ (model : SystemModel) (valid : IsValid model) (priorities : List ℕ) (best : AreBestPriorities model priorities) where
   abbrev given : (task : ℕ) → ℕ

@@ -1,6 +1,6 @@
 -- A valid model with the best priorities on all its cores is valid: on each core they are in range and differ,
 -- deadlines span few least distances, and no other check looks at priorities.
-use Rattle.std.proofs.Common.{◌≡◌, ℕ, suc, ◌+◌, ◌<◌, inl, inr, Bool, true, false, ◌||◌, nat_lt, Option, Some, None, List, [], ◌∷◌, ◌++◌, length, get_or, take, map, refl, sym, ap, ◌∙◌, arith}
+use Rattle.std.proofs.Common.{◌≡◌, ℕ, suc, ◌<◌, inl, inr, Bool, true, false, ◌||◌, nat_lt, Option, Some, None, List, [], ◌∷◌, ◌++◌, length, get_or, take, map, refl, sym, ap, ◌∙◌, arith}
 use Rattle.std.specs.Prelude.{◌==◌, filter, slice_index, unwrap_or}
 use Rattle.std.specs.List.{list_any, range_with_len}
 use Rattle.std.specs.Cmp.Lexicographic.{bytes_decides}
@@ -8,33 +8,14 @@ use Rattle.std.proofs.lemmas.Bool.{eqb-true, ltb-true, false_from_ne_true, and_l
 use Rattle.std.proofs.lemmas.List.{length-map, get_or-take, length-take-le}
 use Rattle.std.proofs.lemmas.List.Elements.{All-map}
 use Rattle.std.proofs.lemmas.Simd.{map-map}
-use Rattle.cl_model.specs.declared.model.SystemModel.{SystemModel}
+use Rattle.cl_model.specs.{declared.{model.SystemModel.SystemModel, refusal.{Code.TheVariants.{M31, M42}, Refusal.Refusal}, stimulus.StimulusKind.StimulusKind, task.TaskDef.TaskDef}, Named.{same_name, index_of, is_some_and, core_names, kind_named, tasks_on}, ByNumber.no_task}
+use Rattle.cl_model.specs.{ByNumber.{no_stimulus, task_at, core_of, deadline_of}, NamedAlike.{named_task, AreNamedAlike}, Ranges.{IsTaskInRange, IsInRange}, Refusals.{when, each}, Timing.deadline_under, ValidNames.stimulus_checks, ValidTasks.{task_key, core_check, priority_check}}
+use Rattle.cl_model.specs.{ValidTasks.{late_check, release_check, room_check, spans_too_many, is_outpaced_by, deadline_check, deadline_checks}, Validity.{refusals_of, IsValid}}
 use Rattle.cl_model.specs.declared.place.Key.TheVariants as key
-use Rattle.cl_model.specs.declared.refusal.Code.TheVariants.{M31, M42}
-use Rattle.cl_model.specs.declared.refusal.Refusal.{Refusal}
-use Rattle.cl_model.specs.declared.stimulus.StimulusKind.{StimulusKind}
-use Rattle.cl_model.specs.declared.task.TaskDef.{TaskDef}
-use Rattle.cl_model.specs.Named.{same_name, index_of, is_some_and, core_names, kind_named, tasks_on}
-use Rattle.cl_model.specs.ByNumber.{no_task, no_stimulus, task_at, core_of, deadline_of}
-use Rattle.cl_model.specs.NamedAlike.{named_task, AreNamedAlike}
-use Rattle.cl_model.specs.Ranges.{IsTaskInRange, IsInRange}
-use Rattle.cl_model.specs.Refusals.{when, each}
-use Rattle.cl_model.specs.Timing.{deadline_under}
-use Rattle.cl_model.specs.ValidNames.{stimulus_checks}
-use Rattle.cl_model.specs.ValidTasks.{task_key, core_check, priority_check, late_check, release_check, room_check, spans_too_many, is_outpaced_by, deadline_check, deadline_checks}
-use Rattle.cl_model.specs.Validity.{refusals_of, IsValid}
-use Rattle.cl_model.proofs.ChecksLeft.{times_checks, rest_check, refusals_left, task_passes}
-use Rattle.cl_model.proofs.EachFacts.{each_nothing}
-use Rattle.cl_model.proofs.NamedAlike.{take_same, maps_through}
-use Rattle.cl_model.proofs.NoRefusals.{none_in_order}
-use Rattle.cl_model.proofs.PassedChecks.{stimuli_pass}
+use Rattle.cl_model.proofs.{ChecksLeft.{times_checks, rest_check, refusals_left, task_passes}, EachFacts.each_nothing, NamedAlike.{take_same, maps_through}, NoRefusals.none_in_order, PassedChecks.stimuli_pass}
 use Rattle.cl_resp.proofs.Filters.{filter-map, by_number}
-use Rattle.cl_tune.specs.BestOrders.{AreBestPriorities}
-use Rattle.cl_tune.specs.Priorities.{task_with, with_priorities}
-use Rattle.cl_tune.proofs.Members.{has_place}
-use Rattle.cl_tune.proofs.NewPriorities.{count_made, task_made}
-use Rattle.cl_tune.proofs.ReorderedPriorities.{distinct, in_range, spans_few}
-use Rattle.cl_tune.proofs.UnderOrders.{range_below}
+use Rattle.cl_tune.specs.{BestOrders.AreBestPriorities, Priorities.{task_with, with_priorities}}
+use Rattle.cl_tune.proofs.{Members.has_place, NewPriorities.{count_made, task_made}, ReorderedPriorities.{distinct, in_range, spans_few}, UnderOrders.range_below}
 
 -- ---- tests of tasks
 

@@ -9,26 +9,13 @@ use Rattle.std.proofs.lemmas.List.Sums.{sum_by-le-sum_by}
 use Rattle.std.proofs.lemmas.Nat.{le-div}
 use Rattle.std.proofs.lemmas.Simd.{map-map}
 use Rattle.std.proofs.Math.Nat.{mul-le-mul_left, div-mul-le_self}
-use Rattle.cl_model.specs.declared.model.SystemModel.{SystemModel}
-use Rattle.cl_model.specs.declared.task.RunnableDef.{RunnableDef}
-use Rattle.cl_model.specs.declared.task.TaskDef.{TaskDef}
-use Rattle.cl_model.specs.Ranges.{IsRunnableInRange, IsTaskInRange, IsInRange}
-use Rattle.cl_model.specs.Holds.{greatest_by}
-use Rattle.cl_runs.specs.SystemOf.{range_of, timing_of, system_of}
-use Rattle.cl_runs.specs.TaskTiming.{TimeRange, Timing}
-use Rattle.cl_runs.specs.Priorities.{is_above, may_block}
-use Rattle.cl_stim.specs.AnyStimulus.{kind_of, as_stimulus}
-use Rattle.cl_stim.specs.Releases.{most_releases}
-use Rattle.cl_resp.specs.declared.question.Above.{Above}
-use Rattle.cl_resp.specs.declared.question.Question.{Question}
-use Rattle.cl_resp.specs.Question.{greatest_execution, hold_of, longest_hold, block_of, taken_by, question_of}
-use Rattle.cl_resp.specs.Response.{Response, demand, response_to, AsksNoMore}
-use Rattle.cl_resp.proofs.Filters.{filter-map}
+use Rattle.cl_model.specs.{declared.{model.SystemModel.SystemModel, task.{RunnableDef.RunnableDef, TaskDef.TaskDef}}, Ranges.{IsRunnableInRange, IsTaskInRange, IsInRange}, Holds.greatest_by}
+use Rattle.cl_runs.specs.{SystemOf.{range_of, timing_of, system_of}, TaskTiming.{TimeRange, Timing}, Priorities.{is_above, may_block}}
+use Rattle.cl_stim.specs.{AnyStimulus.{kind_of, as_stimulus}, Releases.most_releases}
+use Rattle.cl_resp.specs.{declared.question.{Above.Above, Question.Question}, Question.{greatest_execution, hold_of, longest_hold, block_of, taken_by, question_of}, Response.{Response, demand, response_to, AsksNoMore}}
+use Rattle.cl_resp.proofs.{Filters.filter-map, LessAsked.answered_no_later}
 use Rattle.cl_model.proofs.Greatest.{greatest_mapped, greatest_within, greatest_least}
-use Rattle.cl_resp.proofs.LessAsked.{answered_no_later}
-use Rattle.cl_bound.specs.declared.answer.TaskAnswer.{TaskAnswer}
-use Rattle.cl_bound.specs.declared.answer.TaskAnswer.TheVariants.{Late}
-use Rattle.cl_bound.specs.Answers.{answer_with, answer_to, answers_of, answer_at, is_late, response_in}
+use Rattle.cl_bound.specs.{declared.answer.TaskAnswer.{TaskAnswer, TheVariants.Late}, Answers.{answer_with, answer_to, answers_of, answer_at, is_late, response_in}}
 use Rattle.cl_tune.specs.Scaled.{scaled_time, scaled_runnable, scaled_task, scaled}
 
 -- ---- times

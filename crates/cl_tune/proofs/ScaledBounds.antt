@@ -5,27 +5,14 @@ use Rattle.std.specs.List.{take-map}
 use Rattle.std.proofs.lemmas.List.{drop-map}
 use Rattle.std.proofs.lemmas.List.Sums.{sum-map}
 use Rattle.std.proofs.lemmas.Simd.{map-map}
-use Rattle.cl_model.specs.declared.group.Group.{Group}
-use Rattle.cl_model.specs.declared.model.SystemModel.{SystemModel}
-use Rattle.cl_model.specs.declared.stimulus.StimulusKind.{StimulusKind}
-use Rattle.cl_model.specs.declared.task.AccessKind.{AccessKind}
-use Rattle.cl_model.specs.declared.task.RunnableDef.{RunnableDef}
-use Rattle.cl_model.specs.declared.task.TaskDef.{TaskDef}
-use Rattle.cl_model.specs.Timing.{greatest_distance, greatest_jitter}
-use Rattle.cl_model.specs.Kinds.{is_timed}
-use Rattle.cl_runs.specs.SystemOf.{range_of, system_of}
-use Rattle.cl_runs.specs.TaskTiming.{TimeRange, Timing, System, timing_at, no_timing, no_range}
-use Rattle.cl_comm.specs.declared.spot.Spot.{Spot}
-use Rattle.cl_comm.specs.Windows.{least_times, spot_at, window_of, window_at}
+use Rattle.cl_model.specs.{declared.{group.Group.Group, model.SystemModel.SystemModel, stimulus.StimulusKind.StimulusKind, task.{AccessKind.AccessKind, RunnableDef.RunnableDef, TaskDef.TaskDef}}, Timing.{greatest_distance, greatest_jitter}, Kinds.is_timed}
+use Rattle.cl_runs.specs.{SystemOf.{range_of, system_of}, TaskTiming.{TimeRange, Timing, System, timing_at, no_timing, no_range}}
+use Rattle.cl_comm.specs.{declared.spot.{Spot.Spot, Window.Window}, Windows.{least_times, spot_at, window_of, window_at}}
 use Rattle.cl_comm.proofs.Responses.{reads_stay, ends_rise}
-use Rattle.cl_bound.specs.Answers.{answers_of, answer_at, is_late, response_in, NoneIsLate}
-use Rattle.cl_bound.specs.Bounds.{Lengths, AreBoundsOf, settled_timing, settled_timings}
-use Rattle.cl_bound.specs.Hops.{group_timing}
-use Rattle.cl_bound.specs.NoGreater.{StaysWithin, AreNoGreater}
+use Rattle.cl_bound.specs.{Answers.{answers_of, answer_at, is_late, response_in, NoneIsLate}, Bounds.{Lengths, AreBoundsOf, settled_timing, settled_timings}, Hops.group_timing, NoGreater.{StaysWithin, AreNoGreater}}
 use Rattle.cl_bound.proofs.NoGreater.{bounds_no_greater}
 use Rattle.cl_tune.specs.Scaled.{scaled_runnable, scaled}
 use Rattle.cl_tune.proofs.ScaledAnswers.{timing, tasks_are, answer_sooner}
-use Rattle.cl_comm.specs.declared.spot.Window.{Window}
 
 -- ---- what doesn't depend on greatest times
 

@@ -3,37 +3,19 @@ use Rattle.std.proofs.Common.{◌≡◌, ℕ, ◌<◌, true, false, nat_le, nat_
 use Rattle.std.specs.Prelude.{All, filter}
 use Rattle.std.proofs.lemmas.List.{length-map, get_or-map}
 use Rattle.std.proofs.lemmas.List.Elements.{All-from_get_or, All-nil}
-use Rattle.cl_model.specs.declared.model.SystemModel.{SystemModel}
-use Rattle.cl_model.specs.declared.stimulus.StimulusKind.{StimulusKind}
-use Rattle.cl_model.specs.declared.task.TaskDef.{TaskDef}
-use Rattle.cl_model.specs.ByNumber.{task_at, core_of, time_of, tasks_of_core}
+use Rattle.cl_model.specs.{declared.{model.SystemModel.SystemModel, stimulus.StimulusKind.StimulusKind, task.TaskDef.TaskDef}, ByNumber.{task_at, core_of, time_of, tasks_of_core}, Holds.{greatest_by, runnable_hold, task_hold}, Validity.IsValid, Ranges.IsInRange}
 use Rattle.cl_model.specs.ByNumber as tasks
-use Rattle.cl_model.specs.Holds.{greatest_by, runnable_hold, task_hold}
-use Rattle.cl_model.specs.Validity.{IsValid}
-use Rattle.cl_model.specs.Ranges.{IsInRange}
-use Rattle.cl_model.proofs.ListFacts.{maps_agree}
-use Rattle.cl_runs.specs.SystemOf.{system_of}
-use Rattle.cl_runs.specs.TaskTiming.{timing_at, no_timing}
+use Rattle.cl_model.proofs.{ListFacts.maps_agree, Greatest.{greatest_agrees, greatest_mapped}}
+use Rattle.cl_runs.specs.{SystemOf.system_of, TaskTiming.{timing_at, no_timing}}
 use Rattle.cl_runs.proofs.ModelSystem.{count_is}
 use Rattle.cl_stim.specs.AnyStimulus.{as_stimulus}
-use Rattle.cl_resp.specs.declared.question.Block.TheVariants.{WithOwn}
-use Rattle.cl_resp.specs.declared.question.Question.{Question}
-use Rattle.cl_resp.specs.Question.{question_of, IsQuestionInRange}
-use Rattle.cl_resp.specs.Response.{response_to}
-use Rattle.cl_model.proofs.Greatest.{greatest_agrees, greatest_mapped}
+use Rattle.cl_resp.specs.{declared.question.{Block.TheVariants.WithOwn, Question.Question}, Question.{question_of, IsQuestionInRange}, Response.response_to}
 use Rattle.cl_resp.proofs.Questions as asked
-use Rattle.cl_bound.specs.declared.answer.TaskAnswer.{TaskAnswer}
-use Rattle.cl_bound.specs.declared.answer.TaskAnswer.TheVariants.{Late}
-use Rattle.cl_bound.specs.Answers.{answer_with, answer_to, answers_of, answer_at, is_late}
-use Rattle.cl_analyse.specs.declared.findings.Verdict.{Verdict}
-use Rattle.cl_analyse.specs.Verdicts.{verdict_of, is_met}
+use Rattle.cl_bound.specs.{declared.answer.TaskAnswer.{TaskAnswer, TheVariants.Late}, Answers.{answer_with, answer_to, answers_of, answer_at, is_late}}
+use Rattle.cl_analyse.specs.{declared.findings.Verdict.Verdict, Verdicts.{verdict_of, is_met}}
 use Rattle.cl_analyse.proofs.SomeFindings.{some_findings}
-use Rattle.cl_tune.specs.declared.times.TaskTimes.{TaskTimes}
-use Rattle.cl_tune.specs.Headroom.{Keeps}
-use Rattle.cl_tune.specs.Inner.Times.{is_higher, may_hold, above_with, hold_with, question_with, AreTimely}
-use Rattle.cl_tune.specs.Scaled.{scaled_runnable, scaled}
-use Rattle.cl_tune.proofs.ScaledTimes.{filters_agree, count_kept, stimulus_is, priority_is, deadline_is, jitter_is, others_are, times, task_is, times_are, time_is}
-use Rattle.cl_tune.proofs.ScaledValid.{scaled_valid}
+use Rattle.cl_tune.specs.{declared.times.TaskTimes.TaskTimes, Headroom.Keeps, Inner.Times.{is_higher, may_hold, above_with, hold_with, question_with, AreTimely}, Scaled.{scaled_runnable, scaled}}
+use Rattle.cl_tune.proofs.{ScaledTimes.{filters_agree, count_kept, stimulus_is, priority_is, deadline_is, jitter_is, others_are, times, task_is, times_are, time_is}, ScaledValid.scaled_valid}
 
 module _ (model : SystemModel) (percent : ℕ) where
   abbrev made : SystemModel

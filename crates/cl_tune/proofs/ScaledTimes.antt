@@ -6,17 +6,10 @@ use Rattle.std.proofs.lemmas.Bool.{leb-true, le-leb}
 use Rattle.std.proofs.lemmas.List.{length-map}
 use Rattle.std.proofs.lemmas.List.Elements.{All-nil, All-cons, All-head, All-tail}
 use Rattle.std.proofs.lemmas.List.Folds.{fold-map}
-use Rattle.cl_model.specs.declared.model.SystemModel.{SystemModel}
-use Rattle.cl_model.specs.declared.stimulus.StimulusKind.{StimulusKind}
-use Rattle.cl_model.specs.declared.task.RunnableDef.{RunnableDef}
-use Rattle.cl_model.specs.declared.task.TaskDef.{TaskDef}
-use Rattle.cl_model.specs.ByNumber.{no_task, task_at, core_number, stimulus_kind, core_of, stimulus_of, deadline_of, jitter_of, greatest_time, time_of, tasks_of_core}
-use Rattle.cl_model.specs.Ranges.{IsRunnableInRange, IsTaskInRange, IsInRange}
-use Rattle.cl_model.specs.Timing.{greatest_jitter, deadline_under}
+use Rattle.cl_model.specs.{declared.{model.SystemModel.SystemModel, stimulus.StimulusKind.StimulusKind, task.{RunnableDef.RunnableDef, TaskDef.TaskDef}}, ByNumber.{no_task, task_at, core_number, stimulus_kind, core_of, stimulus_of, deadline_of, jitter_of, greatest_time, time_of}}
+use Rattle.cl_model.specs.{ByNumber.tasks_of_core, Ranges.{IsRunnableInRange, IsTaskInRange, IsInRange}, Timing.{greatest_jitter, deadline_under}}
 use Rattle.cl_model.proofs.ListFacts.{both_pass, both_true}
-use Rattle.cl_tune.specs.declared.times.TaskTimes.{TaskTimes}
-use Rattle.cl_tune.specs.Inner.Times.{stays_within, are_within, scaled_times, no_times, times_at}
-use Rattle.cl_tune.specs.Scaled.{scaled_runnable, scaled_task, scaled}
+use Rattle.cl_tune.specs.{declared.times.TaskTimes.TaskTimes, Inner.Times.{stays_within, are_within, scaled_times, no_times, times_at}, Scaled.{scaled_runnable, scaled_task, scaled}}
 
 -- ---- lists
 

@@ -7,29 +7,16 @@ use Rattle.std.proofs.lemmas.Simd.{map-map}
 use Rattle.std.proofs.lemmas.List.Elements.{All-head, All-tail, All-nil, All-cons}
 use Rattle.std.proofs.lemmas.List.Folds.{fold-map}
 use Rattle.std.proofs.lemmas.List.Sums.{fold-append, sum_by-le-sum_by, AllPass-from_list_all, list_all-from_AllPass}
-use Rattle.cl_model.specs.declared.stimulus.StimulusKind.{StimulusKind}
-use Rattle.cl_model.specs.Timing.{greatest_jitter}
-use Rattle.cl_model.specs.ValidTasks.{spans_too_many}
-use Rattle.cl_model.specs.Holds.{greatest_by}
-use Rattle.cl_model.proofs.ListFacts.{same_tests}
-use Rattle.cl_runs.specs.TaskTiming.{Timing, System, timing_at}
-use Rattle.cl_runs.specs.Priorities.{is_above, may_block}
-use Rattle.cl_stim.specs.AnyStimulus.{kind_of}
-use Rattle.cl_stim.specs.Releases.{most_releases}
-use Rattle.cl_resp.specs.declared.question.Above.{Above}
-use Rattle.cl_resp.specs.Question.{greatest_execution, longest_hold, block_of, taken_by, question_of}
-use Rattle.cl_resp.specs.Response.{Response, demand, response_to}
-use Rattle.cl_resp.proofs.Filters.{filter-map}
-use Rattle.cl_model.proofs.Greatest.{greatest_least, greatest_within, greatest_agrees, greatest_mapped}
-use Rattle.cl_resp.proofs.StimulusKinds.{kind_of-as_stimulus}
+use Rattle.cl_model.specs.{declared.stimulus.StimulusKind.StimulusKind, Timing.greatest_jitter, ValidTasks.spans_too_many, Holds.greatest_by}
+use Rattle.cl_model.proofs.{ListFacts.same_tests, Greatest.{greatest_least, greatest_within, greatest_agrees, greatest_mapped}}
+use Rattle.cl_runs.specs.{TaskTiming.{Timing, System, timing_at}, Priorities.{is_above, may_block}}
+use Rattle.cl_stim.specs.{AnyStimulus.kind_of, Releases.most_releases}
+use Rattle.cl_resp.specs.{declared.question.Above.Above, Question.{greatest_execution, longest_hold, block_of, taken_by, question_of}, Response.{Response, demand, response_to}}
+use Rattle.cl_resp.proofs.{Filters.filter-map, StimulusKinds.kind_of-as_stimulus}
 use Rattle.cl_bound.specs.Answers.{answer_with, answer_to, is_late}
-use Rattle.cl_tune.specs.Inner.Filling.{question_below, spans_few, fits_below, AreDistinct}
-use Rattle.cl_tune.specs.Orders.{priority_in, IsPassing}
-use Rattle.cl_tune.proofs.Members.{has, has_head, has_more, has_cases, has_append, has_filter, has_place, HaveSame, all_at, distinct_filter, sums_agree}
-use Rattle.cl_tune.proofs.FitsBelow.{load, demand_below, asks_less}
-use Rattle.cl_tune.proofs.FilledOrders.{AllFit, ascending_range, ascending_distinct}
-use Rattle.cl_tune.proofs.NewPriorities.{timing_with, system_with, count_with, timing_with_is, priority_within}
-use Rattle.cl_tune.proofs.Priorities.{later_is_higher, earlier_is_lower}
+use Rattle.cl_tune.specs.{Inner.Filling.{question_below, spans_few, fits_below, AreDistinct}, Orders.{priority_in, IsPassing}}
+use Rattle.cl_tune.proofs.{Members.{has, has_head, has_more, has_cases, has_append, has_filter, has_place, HaveSame, all_at, distinct_filter, sums_agree}, FitsBelow.{load, demand_below, asks_less}, FilledOrders.{AllFit, ascending_range, ascending_distinct}, NewPriorities.timing_with}
+use Rattle.cl_tune.proofs.{NewPriorities.{system_with, count_with, timing_with_is, priority_within}, Priorities.{later_is_higher, earlier_is_lower}}
 
 -- ---- numbers up to an end
 

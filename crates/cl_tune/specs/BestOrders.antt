@@ -1,11 +1,7 @@
 -- The best orders of the cores of a model.
 use Rattle.std.specs.Prelude.{◌≡◌, ℕ, ◌<◌, List, length, slice_index}
-use Rattle.cl_model.specs.declared.model.SystemModel.{SystemModel}
-use Rattle.cl_model.specs.ByNumber.{core_of}
-use Rattle.cl_tune.specs.declared.answer.OrderAnswer.{OrderAnswer}
-use Rattle.cl_tune.specs.declared.answer.OrderAnswer.TheVariants.{Order, NoOrder}
-use Rattle.cl_tune.specs.Dictionary.{ComesNoLater}
-use Rattle.cl_tune.specs.Orders.{priority_in, IsPassingOrder}
+use Rattle.cl_model.specs.{declared.model.SystemModel.SystemModel, ByNumber.core_of}
+use Rattle.cl_tune.specs.{declared.answer.OrderAnswer.{OrderAnswer, TheVariants.{Order, NoOrder}}, Dictionary.ComesNoLater, Orders.{priority_in, IsPassingOrder}}
 
 -- the best order of a core: it passes, and of those that do it is the first in dictionary order
 pub record IsBestOrder (model : SystemModel) (core : ℕ) (order : List ℕ) : Type 0 where

@@ -1,15 +1,9 @@
 -- The headroom of a model: how far its greatest execution times may be scaled.
 use Rattle.std.specs.Prelude.{◌≡◌, ℕ, ◌<◌, ◌≤◌, true, false, All, Option, Some, None, IfSome}
-use Rattle.cl_model.specs.declared.model.SystemModel.{SystemModel}
-use Rattle.cl_model.specs.Ranges.{IsInRange}
-use Rattle.cl_bound.specs.declared.answer.TaskAnswer.{TaskAnswer}
-use Rattle.cl_bound.specs.Answers.{is_late}
-use Rattle.cl_analyse.specs.declared.findings.Findings.{Findings}
-use Rattle.cl_analyse.specs.declared.findings.Verdict.{Verdict}
-use Rattle.cl_analyse.specs.Findings.{AreFindings}
-use Rattle.cl_analyse.specs.Verdicts.{is_met}
-use Rattle.cl_tune.specs.declared.percent.TheConstants.{MOST_PERCENT}
-use Rattle.cl_tune.specs.Scaled.{scaled}
+use Rattle.cl_model.specs.{declared.model.SystemModel.SystemModel, Ranges.IsInRange}
+use Rattle.cl_bound.specs.{declared.answer.TaskAnswer.TaskAnswer, Answers.is_late}
+use Rattle.cl_analyse.specs.{declared.findings.{Findings.Findings, Verdict.Verdict}, Findings.AreFindings, Verdicts.is_met}
+use Rattle.cl_tune.specs.{declared.percent.TheConstants.MOST_PERCENT, Scaled.scaled}
 
 -- a percentage keeps: the model that it scales is in range, none of its tasks is late, and each requirement is met
 pub record Keeps (model : SystemModel) (percent : ℕ) : Type 0 where

@@ -1,11 +1,7 @@
 -- Orders of the tasks of a core, and what the tasks answer under them. Source: Audsley 1991.
 use Rattle.std.specs.Prelude.{◌≡◌, ℕ, ◌+◌, ◌<◌, true, false, ◌==◌, if◌then◌else◌, List, length, position, unwrap_or, All, IsPermutation}
-use Rattle.cl_model.specs.declared.model.SystemModel.{SystemModel}
-use Rattle.cl_model.specs.ByNumber.{task_at, core_of, tasks_of_core}
-use Rattle.cl_model.specs.ValidTasks.{spans_too_many}
-use Rattle.cl_runs.specs.SystemOf.{system_of}
-use Rattle.cl_runs.specs.TaskTiming.{System, timing_at}
-use Rattle.cl_runs.specs.Priorities.{is_above}
+use Rattle.cl_model.specs.{declared.model.SystemModel.SystemModel, ByNumber.{task_at, core_of, tasks_of_core}, ValidTasks.spans_too_many}
+use Rattle.cl_runs.specs.{SystemOf.system_of, TaskTiming.{System, timing_at}, Priorities.is_above}
 use Rattle.cl_bound.specs.Answers.{answer_to, is_late}
 use Rattle.cl_tune.specs.Priorities.{with_priorities}
 

@@ -1,9 +1,7 @@
 -- A model whose tasks have other priorities.
 use Rattle.std.specs.Prelude.{◌≡◌, ℕ, ◌<◌, length, map}
 use Rattle.std.specs.List.{range_with_len}
-use Rattle.cl_model.specs.declared.model.SystemModel.{SystemModel}
-use Rattle.cl_model.specs.declared.task.TaskDef.{TaskDef}
-use Rattle.cl_model.specs.ByNumber.{task_at}
+use Rattle.cl_model.specs.{declared.{model.SystemModel.SystemModel, task.TaskDef.TaskDef}, ByNumber.task_at}
 use Rattle.cl_runs.specs.TaskTiming.{System, timing_at}
 
 -- a task of a model, with another priority

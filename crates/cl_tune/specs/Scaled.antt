@@ -1,8 +1,6 @@
 -- A model whose greatest execution times are scaled by a percentage. Times are in ticks.
 use Rattle.std.specs.Prelude.{ℕ, ◌*◌, ◌/◌, max, map}
-use Rattle.cl_model.specs.declared.model.SystemModel.{SystemModel}
-use Rattle.cl_model.specs.declared.task.RunnableDef.{RunnableDef}
-use Rattle.cl_model.specs.declared.task.TaskDef.{TaskDef}
+use Rattle.cl_model.specs.declared.{model.SystemModel.SystemModel, task.{RunnableDef.RunnableDef, TaskDef.TaskDef}}
 
 -- a greatest time by so many percent, rounded down, but no less than the least time
 abbrev pub scaled_time : (percent : ℕ) → (least greatest : ℕ) → ℕ

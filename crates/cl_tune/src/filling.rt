@@ -1,8 +1,7 @@
 //! The best order of a core, filled from the lowest priority upward.
 ghost use Rattle.std.specs.Prelude.{◌≡◌, ◌+◌, ◌<◌, ◌≤◌, length, find, IfOk, All, Option};
 ghost use Rattle.std.specs.Option.{option_map};
-ghost use Rattle.cl_model.specs.ByNumber.{tasks_of_core};
-ghost use Rattle.cl_model.specs.Validity.{IsValid};
+ghost use Rattle.cl_model.specs.{ByNumber.tasks_of_core, Validity.IsValid};
 ghost use Rattle.cl_runs.specs.SystemOf.{system_of};
 ghost use Rattle.cl_tune.specs.Inner.Filling.{AreDistinct, fits, best_order};
 

@@ -2,13 +2,9 @@
 //! priority 1 upward. A task is unplaced while the order doesn't have it, and then it stands above
 //! all tasks that the order has.
 ghost use Rattle.std.specs.Prelude.{◌≡◌, ℕ, ◌<◌, ◌≤◌, ◌^◌, ◌&&◌, nat_le, nat_lt, map, max, length, slice_set, is_some, IfOk, All};
-ghost use Rattle.cl_model.specs.ByNumber.{deadline_of};
-ghost use Rattle.cl_model.specs.Validity.{IsValid};
-ghost use Rattle.cl_model.specs.ValidTasks.{spans_too_many};
-ghost use Rattle.cl_runs.specs.SystemOf.{system_of};
-ghost use Rattle.cl_runs.specs.TaskTiming.{timing_at};
-ghost use Rattle.cl_resp.specs.Question.{longest_hold, taken_by, IsQuestionInRange};
-ghost use Rattle.cl_resp.specs.Response.{response_to};
+ghost use Rattle.cl_model.specs.{ByNumber.deadline_of, Validity.IsValid, ValidTasks.spans_too_many};
+ghost use Rattle.cl_runs.specs.{SystemOf.system_of, TaskTiming.timing_at};
+ghost use Rattle.cl_resp.specs.{Question.{longest_hold, taken_by, IsQuestionInRange}, Response.response_to};
 ghost use Rattle.cl_tune.specs.Inner.Filling.{without, question_over, spans_few_of};
 
 use cl_model::{List, MOST_DISTANCES, MOST_TICKS, StimulusKind, ValidModel};

@@ -1,8 +1,6 @@
 //! Whether the tasks of a model are in time with other execution times. Times are in ticks.
 ghost use Rattle.std.specs.Prelude.{◌≡◌, ℕ, ◌<◌, length, map, filter, IfOk, MatchBool};
-ghost use Rattle.cl_model.specs.ByNumber.{task_at, core_of, tasks_of_core};
-ghost use Rattle.cl_model.specs.Holds.{greatest_by};
-ghost use Rattle.cl_model.specs.Validity.{IsValid};
+ghost use Rattle.cl_model.specs.{ByNumber.{task_at, core_of, tasks_of_core}, Holds.greatest_by, Validity.IsValid};
 ghost use Rattle.cl_resp.specs.Question.{IsQuestionInRange};
 ghost use Rattle.cl_tune.specs.Inner.Times.{is_higher, above_with, may_hold, hold_with, question_with, AreTimely};
 

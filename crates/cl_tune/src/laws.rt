@@ -1,18 +1,9 @@
 //! What holds of the best orders and of the headroom of a model.
 ghost use Rattle.std.specs.Prelude.{◌≡◌, ℕ, ◌<◌, ◌≤◌, false, List, length, All, Option, slice_index};
-ghost use Rattle.cl_model.specs.declared.model.SystemModel.{SystemModel};
-ghost use Rattle.cl_model.specs.Ranges.{IsInRange};
-ghost use Rattle.cl_model.specs.Validity.{IsValid};
-ghost use Rattle.cl_runs.specs.SystemOf.{system_of};
-ghost use Rattle.cl_runs.specs.Requirements.{MeetsDeadlines, IsInTime};
-ghost use Rattle.cl_bound.specs.declared.answer.TaskAnswer.{TaskAnswer};
-ghost use Rattle.cl_bound.specs.Answers.{answers_of, is_late};
-ghost use Rattle.cl_tune.specs.declared.answer.OrderAnswer.{OrderAnswer};
-ghost use Rattle.cl_tune.specs.BestOrders.{IsBestOrder, AreBestPriorities, IsOrderAnswer};
-ghost use Rattle.cl_tune.specs.Headroom.{Keeps, IsHeadroom};
-ghost use Rattle.cl_tune.specs.Orders.{IsPassing};
-ghost use Rattle.cl_tune.specs.Priorities.{with_priorities, HasPriorities};
-ghost use Rattle.cl_tune.specs.Scaled.{scaled};
+ghost use Rattle.cl_model.specs.{declared.model.SystemModel.SystemModel, Ranges.IsInRange, Validity.IsValid};
+ghost use Rattle.cl_runs.specs.{SystemOf.system_of, Requirements.{MeetsDeadlines, IsInTime}};
+ghost use Rattle.cl_bound.specs.{declared.answer.TaskAnswer.TaskAnswer, Answers.{answers_of, is_late}};
+ghost use Rattle.cl_tune.specs.{declared.answer.OrderAnswer.OrderAnswer, BestOrders.{IsBestOrder, AreBestPriorities, IsOrderAnswer}, Headroom.{Keeps, IsHeadroom}, Orders.IsPassing, Priorities.{with_priorities, HasPriorities}, Scaled.scaled};
 
 /// A core has at most one best order.
 pub fn best_orders_are_unique()

@@ -2,8 +2,7 @@
 ghost use Rattle.std.specs.Prelude.{◌≡◌, ℕ, ◌<◌, ◌==◌, length, slice_index, position, IfOk};
 ghost use Rattle.std.specs.List.{HoldsAt};
 ghost use Rattle.cl_model.specs.ByNumber.{core_of};
-ghost use Rattle.cl_tune.specs.Orders.{priority_in};
-ghost use Rattle.cl_tune.specs.BestOrders.{IsOrderAnswer};
+ghost use Rattle.cl_tune.specs.{Orders.priority_in, BestOrders.IsOrderAnswer};
 
 use crate::answer::OrderAnswer;
 use crate::filling::best_order;

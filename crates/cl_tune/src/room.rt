@@ -1,11 +1,9 @@
 //! How far the greatest execution times of a model may be scaled.
 ghost use Rattle.std.specs.Prelude.{◌≡◌, ◌≤◌, ◌↔◌, true, false, IsTrue, IsNone, IfOk, All, MatchBool};
-ghost use Rattle.cl_model.specs.Ranges.{IsInRange};
-ghost use Rattle.cl_model.specs.Validity.{IsValid};
+ghost use Rattle.cl_model.specs.{Ranges.IsInRange, Validity.IsValid};
 ghost use Rattle.cl_bound.specs.Answers.{is_late};
 ghost use Rattle.cl_analyse.specs.Verdicts.{is_met};
-ghost use Rattle.cl_tune.specs.Headroom.{Keeps, IsHeadroom, SmallerKeep};
-ghost use Rattle.cl_tune.specs.Scaled.{scaled};
+ghost use Rattle.cl_tune.specs.{Headroom.{Keeps, IsHeadroom, SmallerKeep}, Scaled.scaled};
 
 use crate::in_time::tasks_in_time;
 use crate::percent::MOST_PERCENT;

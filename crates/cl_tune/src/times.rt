@@ -1,8 +1,7 @@
 //! The times of tasks with scaled greatest execution times. Times are in ticks.
 ghost use Rattle.std.specs.Prelude.{◌≡◌, ◌≤◌, true, length, map, sum_by, IfOk, All};
 ghost use Rattle.std.specs.List.{list_all};
-ghost use Rattle.cl_model.specs.Holds.{greatest_by};
-ghost use Rattle.cl_model.specs.Ranges.{IsRunnableInRange, IsTaskInRange};
+ghost use Rattle.cl_model.specs.{Holds.greatest_by, Ranges.{IsRunnableInRange, IsTaskInRange}};
 ghost use Rattle.cl_tune.specs.Inner.Times.{scaled_greatest, scaled_hold, stays_within, are_within, scaled_times};
 
 use crate::percent::MOST_PERCENT;

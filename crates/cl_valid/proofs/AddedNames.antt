@@ -3,18 +3,7 @@ use Rattle.std.proofs.Common.{◌≡◌, ℕ, ◌+◌, ◌<◌, ◌≤◌, ◌^�
 use Rattle.std.specs.Prelude.{All}
 use Rattle.std.proofs.lemmas.List.{take_more, take_all, append-nil, get_or_default}
 use Rattle.std.proofs.Math.ListN.{length-map, get_or-map}
-use Rattle.cl_model.specs.declared.model_fault.ModelFault.{ModelFault}
-use Rattle.cl_model.specs.declared.place.Place.{Place}
-use Rattle.cl_model.specs.declared.refusal.Code.{Code}
-use Rattle.cl_model.specs.declared.model.SystemModel.{SystemModel}
-use Rattle.cl_model.specs.declared.task.TaskDef.{TaskDef}
-use Rattle.cl_model.specs.Answers.{IsFaultOf}
-use Rattle.cl_model.specs.Named.{has_name, core_names, stimulus_names, label_names, chain_names, runnable_names, all_runnables}
-use Rattle.cl_model.specs.NameSets.{names_with, AreNew}
-use Rattle.cl_model.specs.Ranges.{IsTaskInRange}
-use Rattle.cl_model.specs.Refusals.{when, each_from}
-use Rattle.cl_model.specs.ValidNames.{repeat_check, repeats}
-use Rattle.cl_valid.specs.Inner.Tables.{names_of}
+use Rattle.cl_model.specs.{declared.{model_fault.ModelFault.ModelFault, place.Place.Place, refusal.Code.Code, task.TaskDef.TaskDef}, Answers.IsFaultOf, Named.has_name, NameSets.{names_with, AreNew}, Ranges.IsTaskInRange, Refusals.{when, each_from}, ValidNames.{repeat_check, repeats}}
 use Rattle.cl_model.proofs.FirstRefusals.{all_checked, next_passes, next_refused}
 
 -- the first n names are behind those before, and what is refused of all is what is refused of the rest
@@ -74,8 +63,3 @@ new_more before labels k label old new fresh so_far within is after =
     let absent : has_name label old ≡ false = ap (λ l. has_name l old) e ∙ ap (has_name (get_or labels k [])) so_far ∙ fresh k within in
     after ∙ rw absent refl ∙ ap (λ o. o ++ label ∷ []) so_far ∙ append_assoc before (take k labels) (label ∷ [])
     ∙ ap (λ l. before ++ l) (ap (λ y. take k labels ++ y ∷ []) is ∙ sym (take_more labels k label within))
-
--- the names that are kept are those of the model
-pub names_are : (model : SystemModel) (cores stimuli labels runnables chains : List (List ℕ)) → cores ≡ core_names model → stimuli ≡ stimulus_names model → labels ≡ label_names model → runnables ≡ runnable_names (all_runnables model.tasks) → chains ≡ chain_names model
-    → record { cores = cores; stimuli = stimuli; labels = labels; runnables = runnables; chains = chains } ≡ names_of model
-names_are model cores stimuli labels runnables chains a b c d e = rw (a, b, c, d, e) refl

@@ -3,22 +3,12 @@ use Rattle.std.proofs.Common.{◌≡◌, ℕ, ◌+◌, not, ◌||◌, List, [], 
 use Rattle.std.specs.Prelude.{slice_get}
 use Rattle.std.specs.Option.{option_map, option_and_then}
 use Rattle.std.proofs.lemmas.Option.{slice_get-map}
-use Rattle.cl_model.specs.declared.chain.ChainDef.{ChainDef}
-use Rattle.cl_model.specs.declared.model.SystemModel.{SystemModel}
-use Rattle.cl_model.specs.declared.place.Place.{Place}
+use Rattle.cl_model.specs.{declared.{chain.ChainDef.ChainDef, model.SystemModel.SystemModel, place.Place.Place, refusal.Code.TheVariants.M45, task.RunnableDef.RunnableDef}, Named.{has_name, is_some_and, index_of, entry_named, runnable_names, all_runnables}, Place.{entry_of, at_key}}
+use Rattle.cl_model.specs.{Place.at_spot, Refusals.{when, each}, Validity.{lengths_check, step_of, misses_label, hop_check, chain_check}}
 use Rattle.cl_model.specs.declared.place.Part.TheVariants as part
 use Rattle.cl_model.specs.declared.place.Key.TheVariants as key
-use Rattle.cl_model.specs.declared.refusal.Code.TheVariants.{M45}
-use Rattle.cl_model.specs.declared.task.RunnableDef.{RunnableDef}
-use Rattle.cl_model.specs.Named.{has_name, is_some_and, index_of, entry_named, runnable_names, all_runnables}
-use Rattle.cl_model.specs.Place.{entry_of, at_key, at_spot}
-use Rattle.cl_model.specs.Refusals.{when, each}
 use Rattle.cl_model.proofs.Refused.{each_same}
-use Rattle.cl_model.specs.Validity.{lengths_check, step_of, misses_label, hop_check, chain_check}
-use Rattle.cl_valid.specs.declared.runnables.LabelUse.{LabelUse}
-use Rattle.cl_valid.specs.Inner.ChainsByTable.{AreNumbersOf, use_of_number, number_hop_check, use_of_step, misses_use, use_hop_check, known_steps_check, use_hops_check, use_chain_check}
-use Rattle.cl_valid.specs.Inner.Tables.{names_of, use_of, uses_of}
-use Rattle.cl_valid.specs.declared.names.Names.{Names}
+use Rattle.cl_valid.specs.{declared.{runnables.LabelUse.LabelUse, names.Names.Names}, Inner.{ChainsByTable.{AreNumbersOf, use_of_number, number_hop_check, use_of_step, misses_use, use_hop_check, known_steps_check, use_hops_check, use_chain_check}, Tables.{names_of, use_of, uses_of}}}
 
 found_is : {X Y : Type 0} (h : X → Y) (xs : List X) (q : Option ℕ) → option_and_then (slice_get (map h xs)) q ≡ option_map h (option_and_then (slice_get xs) q)
 found_is h xs None = refl

@@ -6,8 +6,7 @@ use Rattle.std.proofs.lemmas.List.{get_or-take, length-take}
 use Rattle.std.proofs.lemmas.List.Folds.{list_any_at}
 use Rattle.std.proofs.lemmas.List.Quantifiers.{position-Some}
 use Rattle.std.specs.Cmp.Lexicographic.{bytes_decides}
-use Rattle.cl_model.specs.Named.{same_name, index_of}
-use Rattle.cl_model.specs.NameSets.{AreDistinctNames}
+use Rattle.cl_model.specs.{Named.{same_name, index_of}, NameSets.AreDistinctNames}
 
 -- a name stands at its place
 pub place_is : (name : List ℕ) (names : List (List ℕ)) (n : ℕ) → index_of name names ≡ Some n → (n < length names) × (name ≡ get_or names n [])

@@ -6,23 +6,13 @@ use Rattle.std.proofs.lemmas.List.{take_more, map-append, append-nil, get_or-map
 use Rattle.std.proofs.lemmas.List.Elements.{filter-append}
 use Rattle.std.proofs.lemmas.Simd.{splat_is_map}
 use Rattle.std.proofs.Math.ListN.{length-map}
-use Rattle.cl_model.specs.declared.model.SystemModel.{SystemModel}
-use Rattle.cl_model.specs.declared.stimulus.StimulusKind.{StimulusKind}
-use Rattle.cl_model.specs.declared.task.TaskDef.{TaskDef}
-use Rattle.cl_model.specs.Named.{same_name, is_some_and, index_of, core_names, kind_named, tasks_on}
-use Rattle.cl_model.specs.NameSets.{AreDistinctNames}
-use Rattle.cl_model.specs.Timing.{deadline_under}
-use Rattle.cl_model.specs.ValidTasks.{task_key, core_check, stimulus_check, priority_check, room_check, naming_checks, spans_too_many, is_outpaced_by, deadline_check}
-use Rattle.cl_model.specs.declared.place.Place.{Place}
+use Rattle.cl_model.specs.{declared.{model.SystemModel.SystemModel, stimulus.StimulusKind.StimulusKind, task.TaskDef.TaskDef, place.Place.Place, refusal.Code.TheVariants.{M31, M42}}, Named.{same_name, is_some_and, index_of, core_names, kind_named, tasks_on}, NameSets.AreDistinctNames}
+use Rattle.cl_model.specs.{Timing.deadline_under, ValidTasks.{task_key, core_check, stimulus_check, priority_check, room_check, naming_checks, spans_too_many, is_outpaced_by, deadline_check}, Refusals.when}
 use Rattle.cl_model.specs.declared.place.Key.TheVariants as key
-use Rattle.cl_model.specs.declared.refusal.Code.TheVariants.{M31, M42}
-use Rattle.cl_model.specs.Refusals.{when}
 use Rattle.std.proofs.lemmas.Cmp.{nat_list_eq_equiv}
 use borrow.Author.Tests.{eqb-true, eqb-false}
 use Rattle.cl_model.proofs.ListFacts.{list_any-map}
-use Rattle.cl_valid.specs.declared.shares.Share.{Share}
-use Rattle.cl_valid.specs.Inner.Tables.{share_of, shares_on, shares_by_core}
-use Rattle.cl_valid.specs.Inner.TasksByShare.{share_priority_check, share_checks, outpaces}
+use Rattle.cl_valid.specs.{declared.shares.Share.Share, Inner.{Tables.{share_of, shares_on, shares_by_core}, TasksByShare.{share_priority_check, share_checks, outpaces}}}
 use Rattle.cl_valid.proofs.NamesByPlace.{place_is, places_differ}
 
 -- no tasks, on each core

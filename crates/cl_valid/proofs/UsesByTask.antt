@@ -4,25 +4,13 @@ use Rattle.std.specs.List.{flat_map}
 use Rattle.std.proofs.lemmas.List.{take_more, append-nil, map_more, map-append}
 use Rattle.std.proofs.Math.ListN.{length-map}
 use Rattle.std.specs.Prelude.{nat_lt}
-use Rattle.cl_model.specs.declared.model.SystemModel.{SystemModel}
+use Rattle.cl_model.specs.{declared.{model.SystemModel.SystemModel, limits.TheConstants.MOST_RUNNABLES_OF_MODEL, place.Place.Place, refusal.Code.TheVariants.{M39, M40, M41}, task.{TaskDef.TaskDef, RunnableDef.RunnableDef}}, Named.{same_name, has_name, labels_written, all_runnables}}
+use Rattle.cl_model.specs.{Place.{entry_of, at_sub, at_spot}, Refusals.{each, when}, ValidNames.repeat_check, ValidTasks.{writer_check, twice_check, runnable_checks, body_check, count_check}, NameSets.AreNew}
 use Rattle.cl_model.specs.declared.place.Part.TheVariants as part
-use Rattle.cl_model.specs.declared.limits.TheConstants.{MOST_RUNNABLES_OF_MODEL}
 use Rattle.std.proofs.lemmas.List.Folds.{list_any-append}
 use Rattle.std.proofs.lemmas.Grind.{flat_map-append}
-use Rattle.cl_model.specs.declared.place.Place.{Place}
-use Rattle.cl_model.specs.declared.refusal.Code.TheVariants.{M39, M40, M41}
-use Rattle.cl_model.specs.declared.task.TaskDef.{TaskDef}
-use Rattle.cl_model.specs.declared.task.RunnableDef.{RunnableDef}
-use Rattle.cl_model.specs.Named.{same_name, has_name, labels_written, all_runnables}
-use Rattle.cl_model.specs.Place.{entry_of, at_sub, at_spot}
-use Rattle.cl_model.specs.Refusals.{each, when}
-use Rattle.cl_model.specs.ValidNames.{repeat_check}
-use Rattle.cl_model.specs.ValidTasks.{writer_check, twice_check, runnable_checks, body_check, count_check}
 use Rattle.cl_model.proofs.Refused.{when_none, each_none}
-use Rattle.cl_valid.specs.declared.runnables.LabelUse.{LabelUse}
-use Rattle.cl_model.specs.NameSets.{AreNew}
-use Rattle.cl_valid.specs.declared.shares.Share.{Share}
-use Rattle.cl_valid.specs.Inner.Tables.{use_of, uses_of, shares_by_core, kept_of}
+use Rattle.cl_valid.specs.{declared.{runnables.LabelUse.LabelUse, shares.Share.Share}, Inner.Tables.{use_of, uses_of, shares_by_core, kept_of}}
 
 -- labels that stand nowhere before are new
 pub new_labels : (place other : Place) (written labels : List (List ℕ)) → each (writer_check place written) labels ≡ [] → twice_check other labels ≡ [] → AreNew written labels

@@ -1,15 +1,8 @@
 //! The checks of chains and requirements.
 ghost use Rattle.std.specs.Prelude.{◌≡◌, All, ℕ, List, ◌+◌, ◌<◌, ◌^◌, [], not, map, length, Some, IfOk, OnOk};
 ghost use Rattle.std.specs.Option.{option_copied};
-ghost use Rattle.cl_model.specs.Answers.{Answers, Passes};
-ghost use Rattle.cl_model.specs.declared.chain.ChainDef.{ChainDef};
-ghost use Rattle.cl_model.specs.Named.{has_name, index_of, is_some_and, runnable_names, all_runnables, chain_names};
-ghost use Rattle.cl_model.specs.Ranges.{IsInRange, IsChainInRange};
-ghost use Rattle.cl_model.specs.Refusals.{each};
-ghost use Rattle.cl_model.specs.Validity.{lengths_check, chain_check, requirement_check};
-ghost use Rattle.cl_valid.specs.Inner.ChainsByTable.{AreNumbersOf, use_of_number, misses_use, known_step_check, number_hop_check, known_steps_check, use_hops_check, use_chain_check, known_chain_check};
-ghost use Rattle.cl_valid.specs.Inner.Tables.{names_of, uses_of};
-ghost use Rattle.cl_valid.specs.declared.runnables.LabelUse.{LabelUse};
+ghost use Rattle.cl_model.specs.{Answers.{Answers, Passes}, declared.chain.ChainDef.ChainDef, Named.{has_name, index_of, is_some_and, runnable_names, all_runnables, chain_names}, Ranges.{IsInRange, IsChainInRange}, Refusals.each, Validity.{lengths_check, chain_check, requirement_check}};
+ghost use Rattle.cl_valid.specs.{Inner.{ChainsByTable.{AreNumbersOf, use_of_number, misses_use, known_step_check, number_hop_check, known_steps_check, use_hops_check, use_chain_check, known_chain_check}, Tables.{names_of, uses_of}}, declared.runnables.LabelUse.LabelUse};
 
 use crate::names::Names;
 use crate::places::{at_spot, entry_of};

@@ -1,12 +1,8 @@
 //! The check of deadlines against the tasks of higher priority.
 ghost use Rattle.std.specs.Prelude.{◌≡◌, [], map, slice_get, Some};
 ghost use Rattle.std.specs.List.{list_any};
-ghost use Rattle.cl_model.specs.Answers.{Answers};
-ghost use Rattle.cl_model.specs.Named.{core_names};
-ghost use Rattle.cl_model.specs.Ranges.{IsInRange};
-ghost use Rattle.cl_model.specs.ValidTasks.{spans_too_many, task_checks, deadline_check, deadline_checks};
-ghost use Rattle.cl_valid.specs.Inner.TasksByShare.{outpaces};
-ghost use Rattle.cl_valid.specs.Inner.Tables.{names_of, shares_by_core};
+ghost use Rattle.cl_model.specs.{Answers.Answers, Named.core_names, Ranges.IsInRange, ValidTasks.{spans_too_many, task_checks, deadline_check, deadline_checks}};
+ghost use Rattle.cl_valid.specs.Inner.{TasksByShare.outpaces, Tables.{names_of, shares_by_core}};
 
 use crate::names::Names;
 use crate::places::entry_of;

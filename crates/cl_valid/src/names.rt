@@ -3,12 +3,7 @@ ghost use Rattle.std.specs.Prelude.{◌≡◌, ◌<◌, ◌^◌, ◌++◌, [], A
 ghost use Rattle.cl_model.specs.declared.place.Part.TheVariants as parts;
 ghost use Rattle.cl_model.specs.declared.place.Key.TheVariants as keys;
 ghost use Rattle.cl_model.specs.declared.refusal.Code.TheVariants as codes;
-ghost use Rattle.cl_model.specs.Answers.{Answers};
-ghost use Rattle.cl_model.specs.Place.{entry_of, at_key, at_sub};
-ghost use Rattle.cl_model.specs.Named.{runnable_names, all_runnables};
-ghost use Rattle.cl_model.specs.Ranges.{IsInRange, IsTaskInRange};
-ghost use Rattle.cl_model.specs.Refusals.{each};
-ghost use Rattle.cl_model.specs.ValidNames.{repeats, section_repeats, runnable_repeats, name_checks};
+ghost use Rattle.cl_model.specs.{Answers.Answers, Place.{entry_of, at_key, at_sub}, Named.{runnable_names, all_runnables}, Ranges.{IsInRange, IsTaskInRange}, Refusals.each, ValidNames.{repeats, section_repeats, runnable_repeats, name_checks}};
 ghost use Rattle.cl_valid.specs.Inner.Tables.{no_names, names_of};
 
 use crate::places::{at_sub, entry_of};

@@ -1,15 +1,8 @@
 //! The checks of what runnables read and write.
 ghost use Rattle.std.specs.Prelude.{◌≡◌, ◌<◌, ◌^◌, ◌++◌, [], length, map, OnOk};
 ghost use Rattle.cl_model.specs.declared.place.Key.TheVariants as keys;
-ghost use Rattle.cl_model.specs.Answers.{Answers};
-ghost use Rattle.cl_model.specs.Named.{labels_written};
-ghost use Rattle.cl_model.specs.NameSets.{AreNew};
-ghost use Rattle.cl_model.specs.Place.{at_key, at_spot as spot};
-ghost use Rattle.cl_model.specs.declared.refusal.Code.TheVariants.{M39};
-ghost use Rattle.cl_model.specs.ValidNames.{repeat_check};
-ghost use Rattle.cl_model.specs.Ranges.{IsRunnableInRange, IsTaskInRange};
-ghost use Rattle.cl_model.specs.Refusals.{each};
-ghost use Rattle.cl_model.specs.ValidTasks.{label_check, writer_check, times_check, reads_check, writes_check, twice_check, contest_check, runnable_checks, body_checks};
+ghost use Rattle.cl_model.specs.{Answers.Answers, Named.labels_written, NameSets.AreNew, Place.{at_key, at_spot as spot}, declared.refusal.Code.TheVariants.M39, ValidNames.repeat_check, Ranges.{IsRunnableInRange, IsTaskInRange}, Refusals.each, ValidTasks.{label_check, writer_check}};
+ghost use Rattle.cl_model.specs.ValidTasks.{times_check, reads_check, writes_check, twice_check, contest_check, runnable_checks, body_checks};
 ghost use Rattle.cl_valid.specs.Inner.Tables.{use_of, uses_of};
 
 use crate::labels::Labels;

@@ -1,9 +1,6 @@
 //! The checks of stimuli.
 ghost use Rattle.std.specs.Prelude.{◌≡◌, ◌*◌, ◌<◌, ◌^◌, nat_lt, length};
-ghost use Rattle.cl_model.specs.Answers.{Answers};
-ghost use Rattle.cl_model.specs.Ranges.{IsInRange};
-ghost use Rattle.cl_model.specs.Refusals.{each};
-ghost use Rattle.cl_model.specs.ValidNames.{has_late_offset, has_no_distance, has_long_burst, offset_check, distance_check, burst_check, stimulus_checks};
+ghost use Rattle.cl_model.specs.{Answers.Answers, Ranges.IsInRange, Refusals.each, ValidNames.{has_late_offset, has_no_distance, has_long_burst, offset_check, distance_check, burst_check, stimulus_checks}};
 
 use crate::places::entry_of;
 use cl_model::{

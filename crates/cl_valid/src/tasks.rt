@@ -1,13 +1,9 @@
 //! The checks of tasks.
 ghost use Rattle.std.specs.Prelude.{◌≡◌, ◌<◌, ◌^◌, ◌+◌, ◌==◌, map, length, take, slice_get, Some, IfOk, OnOk};
 ghost use Rattle.std.specs.List.{list_any};
-ghost use Rattle.cl_model.specs.Answers.{Answers, Passes};
-ghost use Rattle.cl_model.specs.Named.{index_of, core_names, stimulus_names, kind_named};
-ghost use Rattle.cl_model.specs.NameSets.{AreDistinctNames};
-ghost use Rattle.cl_model.specs.Ranges.{IsInRange};
-ghost use Rattle.cl_model.specs.ValidTasks.{task_key, core_check, stimulus_check, late_check, release_check, room_check, empty_check, naming_checks, task_check, task_checks};
-ghost use Rattle.cl_valid.specs.Inner.TasksByShare.{share_priority_check, share_checks};
-ghost use Rattle.cl_valid.specs.Inner.Tables.{names_of, share_of, shares_by_core, kept_of};
+ghost use Rattle.cl_model.specs.{Answers.{Answers, Passes}, Named.{index_of, core_names, stimulus_names, kind_named}, NameSets.AreDistinctNames, Ranges.IsInRange, ValidTasks.{task_key, core_check, stimulus_check, late_check, release_check, room_check, empty_check, naming_checks}};
+ghost use Rattle.cl_model.specs.ValidTasks.{task_check, task_checks};
+ghost use Rattle.cl_valid.specs.Inner.{TasksByShare.{share_priority_check, share_checks}, Tables.{names_of, share_of, shares_by_core, kept_of}};
 
 use crate::names::Names;
 use crate::places::entry_of;

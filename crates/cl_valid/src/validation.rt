@@ -1,13 +1,7 @@
 //! The validation of a model.
 ghost use Rattle.std.specs.Prelude.{◌≡◌, ◌↔◌, IfOk, IfErr, OnOk, IsOk, None, Some, []};
-ghost use Rattle.cl_model.specs.Answers.{Answers, IsFaultOf};
-ghost use Rattle.cl_model.specs.Named.{core_names};
-ghost use Rattle.cl_model.specs.NameSets.{AreDistinctNames};
-ghost use Rattle.cl_model.specs.Ranges.{IsInRange};
-ghost use Rattle.cl_model.specs.ValidTasks.{task_checks};
-ghost use Rattle.cl_model.specs.Validity.{IsValid, refusals_of, refusal_of};
-ghost use Rattle.cl_valid.specs.Inner.Parts.{link_checks, part_checks};
-ghost use Rattle.cl_valid.specs.Inner.Tables.{names_of, kept_of};
+ghost use Rattle.cl_model.specs.{Answers.{Answers, IsFaultOf}, Named.core_names, NameSets.AreDistinctNames, Ranges.IsInRange, ValidTasks.task_checks, Validity.{IsValid, refusals_of, refusal_of}};
+ghost use Rattle.cl_valid.specs.Inner.{Parts.{link_checks, part_checks}, Tables.{names_of, kept_of}};
 
 use crate::chains::{check_chains, check_requirements};
 use crate::deadlines::check_deadlines;

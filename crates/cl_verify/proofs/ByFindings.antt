@@ -3,35 +3,21 @@ use Rattle.std.proofs.Common.{◌≡◌, ℕ, ◌<◌, Bool, true, false, Option
 use Rattle.std.specs.Prelude.{Result, IfOk, if◌then◌else◌}
 use Rattle.std.specs.Option.{option_map}
 use Rattle.std.proofs.lemmas.List.{get_or-map}
-use Rattle.cl_model.specs.declared.model.SystemModel.{SystemModel}
-use Rattle.cl_model.specs.declared.chain.RequirementDef.{RequirementDef}
-use Rattle.cl_runs.specs.Requirements.{no_requirement, requirement_at, required_chain, IsBrokenBy}
-use Rattle.cl_runs.specs.SystemOf.{system_of}
+use Rattle.cl_model.specs.declared.{model.SystemModel.SystemModel, chain.RequirementDef.RequirementDef}
+use Rattle.cl_runs.specs.{Requirements.{no_requirement, requirement_at, required_chain, IsBrokenBy}, SystemOf.system_of}
 use Rattle.cl_runs.proofs.ModelSystem.{count_is}
-use Rattle.cl_resp.specs.ByPhase.{response_by_phase}
-use Rattle.cl_resp.specs.Response.{Response}
-use Rattle.cl_bound.specs.declared.answer.TaskAnswer.{TaskAnswer}
+use Rattle.cl_resp.specs.{ByPhase.response_by_phase, Response.Response}
+use Rattle.cl_bound.specs.{declared.answer.TaskAnswer.TaskAnswer, Bounds.Lengths, Answers.{answer_with, answer_at, is_late}}
 use Rattle.cl_bound.specs.declared.answer.TaskAnswer.TheVariants as answer
-use Rattle.cl_bound.specs.Bounds.{Lengths}
-use Rattle.cl_bound.specs.Answers.{answer_with, answer_at, is_late}
-use Rattle.cl_analyse.specs.declared.findings.ChainAnswer.{ChainAnswer}
+use Rattle.cl_analyse.specs.{declared.findings.{ChainAnswer.ChainAnswer, Verdict.Verdict}, ChainAnswers.chain_answer_at, Verdicts.{limited_bound, required_bound, verdict_on, verdict_at}}
 use Rattle.cl_analyse.specs.declared.findings.ChainAnswer.TheVariants as chain
-use Rattle.cl_analyse.specs.declared.findings.Verdict.{Verdict}
 use Rattle.cl_analyse.specs.declared.findings.Verdict.TheVariants as verdict
-use Rattle.cl_analyse.specs.ChainAnswers.{chain_answer_at}
-use Rattle.cl_analyse.specs.Verdicts.{limited_bound, required_bound, verdict_on, verdict_at}
-use Rattle.cl_tight.specs.declared.findings.TightFindings.{TightFindings}
-use Rattle.cl_tight.specs.TightAnswers.{tight_answers_of}
+use Rattle.cl_tight.specs.{declared.findings.TightFindings.TightFindings, TightAnswers.tight_answers_of, TightFindings.{tight_chain_answers_of, has_exact_bounds, exact_bound, tight_verdict_of, tight_findings_of}}
 use Rattle.cl_tight.proofs.TightTasks.{phased_answer}
-use Rattle.cl_tight.specs.TightFindings.{tight_chain_answers_of, has_exact_bounds, exact_bound, tight_verdict_of, tight_findings_of}
-use Rattle.cl_report.proofs.ReportLines.{task_answer, chain_answer_in}
-use Rattle.cl_report.proofs.TightLines.{tight_tasks_found, tight_chains_within}
-use Rattle.cl_verify.specs.declared.decision.TaskDecision.{TaskDecision}
+use Rattle.cl_report.proofs.{ReportLines.{task_answer, chain_answer_in}, TightLines.{tight_tasks_found, tight_chains_within}}
 use Rattle.cl_verify.specs.declared.decision.TaskDecision.TheVariants as task
-use Rattle.cl_verify.specs.declared.decision.Decision.{Decision}
+use Rattle.cl_verify.specs.{declared.decision.Decision.Decision, Decisions.{IsDecisionOnTask, IsDecisionByRuns, IsDecisionOn, tight_bound}, Witnesses.settled_response}
 use Rattle.cl_verify.specs.declared.decision.Decision.TheVariants as requirement
-use Rattle.cl_verify.specs.Decisions.{IsDecisionOnLate, IsDecisionOnTask, IsDecisionByRuns, IsDecisionOn, tight_bound}
-use Rattle.cl_verify.specs.Witnesses.{settled_response}
 
 -- ---- what was found
 
@@ -74,9 +60,6 @@ verdict_found_is model i within =
 module _ (model : SystemModel) (i : ℕ) (found : TaskAnswer) where
   pub settled_decided : (settled : Response) → found ≡ answer.Settled settled → IsDecisionOnTask model i found (task.Met settled.response)
   settled_decided settled is = subst (λ (a : TaskAnswer). IsDecisionOnTask model i a (task.Met settled.response)) (sym is) refl
-
-  pub late_decided : (decision : TaskDecision) → found ≡ answer.Late → IsDecisionOnLate model i decision → IsDecisionOnTask model i found decision
-  late_decided decision is decided = subst (λ (a : TaskAnswer). IsDecisionOnTask model i a decision) (sym is) decided
 
 -- a late task has no response by phases
 no_response_in : (response : Option Response) → is_late (answer_with response) ≡ true → option_map (λ (settled : Response). settled.response) response ≡ None

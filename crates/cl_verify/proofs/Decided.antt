@@ -2,23 +2,17 @@
 use Rattle.std.proofs.Common.{◌≡◌, ℕ, zero, suc, ◌<◌, Bool, true, false, not, cond, Some, None, List, [], ◌∷◌, length, get_or, refl, sym, ap, ◌∙◌, subst, arith}
 use Rattle.std.specs.List.{count_by}
 use Rattle.std.proofs.lemmas.List.Sums.{sum_by-cons}
-use Rattle.cl_model.specs.declared.model.SystemModel.{SystemModel}
-use Rattle.cl_model.specs.declared.chain.RequirementDef.{RequirementDef}
+use Rattle.cl_model.specs.declared.{model.SystemModel.SystemModel, chain.RequirementDef.RequirementDef}
 use Rattle.cl_runs.specs.Requirements.{IsBroken, IsBrokenBy}
 use Rattle.cl_resp.specs.Response.{Response}
-use Rattle.cl_bound.specs.declared.answer.TaskAnswer.{TaskAnswer}
+use Rattle.cl_bound.specs.{declared.answer.TaskAnswer.TaskAnswer, Answers.is_late}
 use Rattle.cl_bound.specs.declared.answer.TaskAnswer.TheVariants as answer
-use Rattle.cl_bound.specs.Answers.{is_late}
-use Rattle.cl_analyse.specs.declared.findings.Verdict.{Verdict}
+use Rattle.cl_analyse.specs.{declared.findings.Verdict.Verdict, Verdicts.is_met}
 use Rattle.cl_analyse.specs.declared.findings.Verdict.TheVariants as verdict
-use Rattle.cl_analyse.specs.Verdicts.{is_met}
 use Rattle.cl_near.specs.Seen.{MissesDeadline}
-use Rattle.cl_verify.specs.declared.decision.TaskDecision.{TaskDecision}
+use Rattle.cl_verify.specs.{declared.decision.{TaskDecision.TaskDecision, Decision.Decision}, Decisions.{IsDecisionOnLate, IsDecisionOnTask, IsDecisionByRuns, IsDecisionOn}, VerifyText.{is_task_broken, is_task_unshown, is_requirement_broken, is_requirement_unshown}}
 use Rattle.cl_verify.specs.declared.decision.TaskDecision.TheVariants as task
-use Rattle.cl_verify.specs.declared.decision.Decision.{Decision}
 use Rattle.cl_verify.specs.declared.decision.Decision.TheVariants as requirement
-use Rattle.cl_verify.specs.Decisions.{IsDecisionOnLate, IsDecisionOnTask, IsDecisionByRuns, IsDecisionOn}
-use Rattle.cl_verify.specs.VerifyText.{is_task_broken, is_task_unshown, is_requirement_broken, is_requirement_unshown}
 
 -- ---- a task
 

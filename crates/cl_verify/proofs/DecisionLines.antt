@@ -2,27 +2,18 @@
 use Rattle.std.proofs.Common.{◌≡◌, ℕ, ◌+◌, ◌<◌, Some, None, List, [], ◌∷◌, ◌++◌, length, get_or, refl, sym, ap, ◌∙◌, subst, codes, append_assoc, arith}
 use Rattle.std.specs.Prelude.{decimal}
 use Rattle.std.proofs.lemmas.List.{get_or_default}
-use Rattle.cl_model.specs.declared.model.SystemModel.{SystemModel}
-use Rattle.cl_model.specs.declared.chain.RequirementDef.{RequirementDef}
-use Rattle.cl_model.specs.Kinds.{requirement_word}
-use Rattle.cl_model.specs.ByNumber.{task_at}
-use Rattle.cl_model.specs.Validity.{IsValid}
+use Rattle.cl_model.specs.{declared.{model.SystemModel.SystemModel, chain.RequirementDef.RequirementDef}, Kinds.requirement_word, ByNumber.task_at, Validity.IsValid}
 use Rattle.cl_runs.specs.Requirements.{no_requirement, requirement_at, required_chain}
 use Rattle.cl_analyse.specs.declared.findings.ChainAnswer.TheVariants as chain
-use Rattle.cl_analyse.specs.declared.findings.Verdict.{Verdict}
+use Rattle.cl_analyse.specs.{declared.findings.Verdict.Verdict, ChainAnswers.chain_answer_at, Verdicts.verdict_at}
 use Rattle.cl_analyse.specs.declared.findings.Verdict.TheVariants as verdict
-use Rattle.cl_analyse.specs.ChainAnswers.{chain_answer_at}
-use Rattle.cl_analyse.specs.Verdicts.{verdict_at}
 use Rattle.cl_tight.specs.TightFindings.{tight_findings_of}
 use Rattle.cl_tight.proofs.TightLists.{required_known}
 use Rattle.cl_report.proofs.TightLines.{tight_chains_found, tight_late_known}
-use Rattle.cl_verify.specs.declared.decision.TaskDecision.{TaskDecision}
+use Rattle.cl_verify.specs.{declared.decision.{TaskDecision.TaskDecision, Decision.Decision, Decisions.Decisions}, Decisions.{IsDecisionByRuns, IsDecisionOn, AreRequirementDecisions, task_decision_at, decision_at}, VerifyText.{met_count, broken_count, unshown_count, sum_line}}
+use Rattle.cl_verify.specs.VerifyText.{none_of_words, decision_words, decision_line}
 use Rattle.cl_verify.specs.declared.decision.TaskDecision.TheVariants as task
-use Rattle.cl_verify.specs.declared.decision.Decision.{Decision}
 use Rattle.cl_verify.specs.declared.decision.Decision.TheVariants as requirement
-use Rattle.cl_verify.specs.declared.decision.Decisions.{Decisions}
-use Rattle.cl_verify.specs.Decisions.{IsDecisionByRuns, IsDecisionOn, AreRequirementDecisions, task_decision_at, decision_at}
-use Rattle.cl_verify.specs.VerifyText.{met_count, broken_count, unshown_count, sum_line, none_of_words, decision_words, decision_line}
 
 three_pieces : (a b c t0 t1 t2 t3 : List ℕ) → t1 ≡ t0 ++ a → t2 ≡ t1 ++ b → t3 ≡ t2 ++ c → t3 ≡ t0 ++ (a ++ b ++ c)
 three_pieces a b c t0 t1 t2 t3 h1 h2 h3 = rw (h3, h2, h1) (simp append_assoc)

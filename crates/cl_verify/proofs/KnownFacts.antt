@@ -5,12 +5,8 @@ use Rattle.std.proofs.Math.ListN.{set}
 use Rattle.std.proofs.lemmas.Bool.{cases_lt, cases_eq}
 use Rattle.std.proofs.lemmas.Grind.{get_or-set_at}
 use Rattle.std.proofs.lemmas.List.{get_or_default, get_or_past, get_or-set_other}
-use Rattle.cl_model.specs.declared.chain.LengthKind.TheVariants.{Reaction, Age, Reduced}
-use Rattle.cl_model.specs.declared.chain.RequirementKind.TheVariants.{Length, Delay}
-use Rattle.cl_model.specs.declared.model.SystemModel.{SystemModel}
-use Rattle.cl_verify.specs.declared.known_lengths.LengthsOfChain.{LengthsOfChain}
-use Rattle.cl_verify.specs.declared.known_lengths.KnownLengths.{KnownLengths}
-use Rattle.cl_verify.specs.KnownLengths.{nothing_known, IsKnownOf, AreKnownLengths}
+use Rattle.cl_model.specs.declared.{chain.{LengthKind.TheVariants.{Reaction, Age, Reduced}, RequirementKind.TheVariants.{Length, Delay}}, model.SystemModel.SystemModel}
+use Rattle.cl_verify.specs.{declared.known_lengths.{LengthsOfChain.LengthsOfChain, KnownLengths.KnownLengths}, KnownLengths.{nothing_known, IsKnownOf, AreKnownLengths}}
 
 -- of a chain of which nothing is known, all is so
 pub nothing_is_so : (model : SystemModel) (chain : ℕ) → IsKnownOf model chain nothing_known

@@ -7,9 +7,6 @@ pub record AreMade {X : Type 0} (fact : ℕ → X → Type 0) (d : X) (n : ℕ) 
   pub count : length made ≡ n
   pub each : (k : ℕ) → k < n → fact k (get_or made k d)
 
-pub none_made : {X : Type 0} (fact : ℕ → X → Type 0) (d : X) (made : List X) → made ≡ [] → AreMade fact d 0 made
-none_made fact d made is = record { count = ap length is; each = λ k h. absurd (omega (arith, h)) }
-
 pub one_more_made : {X : Type 0} (fact : ℕ → X → Type 0) (d : X) (n : ℕ) (old new : List X) (next : X) → AreMade fact d n old → fact n next
     → new ≡ old ++ next ∷ [] → AreMade fact d (n + 1) new
 one_more_made fact d n old new next made is pushed =

@@ -4,26 +4,19 @@ use Rattle.std.specs.List.{list_all, count_by, AllPass}
 use Rattle.std.proofs.lemmas.Bool.{and_parts}
 use Rattle.std.proofs.lemmas.List.{get_or_default}
 use Rattle.std.proofs.lemmas.List.Sums.{AllPass-from_list_all, list_all-from_AllPass}
-use Rattle.cl_model.specs.declared.model.SystemModel.{SystemModel}
-use Rattle.cl_model.specs.Validity.{IsValid}
-use Rattle.cl_runs.specs.SystemOf.{system_of}
-use Rattle.cl_runs.specs.Requirements.{requirement_at, IsKept, IsBroken}
-use Rattle.cl_runs.specs.Responses.{AlwaysFinishesWithin}
-use Rattle.cl_bound.specs.declared.answer.TaskAnswer.{TaskAnswer}
+use Rattle.cl_model.specs.{declared.model.SystemModel.SystemModel, Validity.IsValid}
+use Rattle.cl_runs.specs.{SystemOf.system_of, Requirements.{requirement_at, IsKept, IsBroken}, Responses.AlwaysFinishesWithin}
+use Rattle.cl_bound.specs.{declared.answer.TaskAnswer.TaskAnswer, Answers.{answer_at, is_late}}
 use Rattle.cl_bound.specs.declared.answer.TaskAnswer.TheVariants as answer
-use Rattle.cl_bound.specs.Answers.{answer_at, is_late}
-use Rattle.cl_analyse.specs.declared.findings.Verdict.{Verdict}
+use Rattle.cl_analyse.specs.{declared.findings.Verdict.Verdict, Verdicts.{verdict_at, is_met}}
 use Rattle.cl_analyse.specs.declared.findings.Verdict.TheVariants as verdict
-use Rattle.cl_analyse.specs.Verdicts.{verdict_at, is_met}
 use Rattle.cl_tight.specs.TightFindings.{tight_findings_of, is_verified}
 use Rattle.cl_tight.proofs.TightLaws.{tight_findings_safe}
 use Rattle.cl_near.specs.Seen.{MissesDeadline}
 use Rattle.cl_report.proofs.TightLines.{tight_tasks_found, tight_verdicts_found}
 use Rattle.cl_verify.specs.declared.decision.TaskDecision.TheVariants as task
 use Rattle.cl_verify.specs.declared.decision.Decision.TheVariants as requirement
-use Rattle.cl_verify.specs.declared.decision.Decisions.{Decisions}
-use Rattle.cl_verify.specs.Decisions.{AreDecisionsOf, task_decision_at, decision_at}
-use Rattle.cl_verify.specs.VerifyText.{is_task_broken, is_task_unshown, is_requirement_broken, is_requirement_unshown, broken_count, unshown_count}
+use Rattle.cl_verify.specs.{declared.decision.Decisions.Decisions, Decisions.{AreDecisionsOf, task_decision_at, decision_at}, VerifyText.{is_task_broken, is_task_unshown, is_requirement_broken, is_requirement_unshown, broken_count, unshown_count}}
 use Rattle.cl_verify.proofs.Decided.{met_settled, broken_missed, timely_passes, passing_timely, met_verdict, broken_seen, is_broken, met_passes, passing_met, none_counted, counted_none}
 
 module _ (model : SystemModel) (decisions : Decisions) (are : AreDecisionsOf model decisions) where

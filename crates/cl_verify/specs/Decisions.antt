@@ -1,24 +1,18 @@
 -- What is decided of tasks and requirements: what is met holds in every legal run, and what is broken is so in some legal
 -- run. Times are in ticks.
 use Rattle.std.specs.Prelude.{◌≡◌, ℕ, ◌<◌, ◌≤◌, List, length, Option, Some, None, IfSome, slice_index_or}
-use Rattle.cl_model.specs.declared.model.SystemModel.{SystemModel}
-use Rattle.cl_model.specs.declared.chain.RequirementDef.{RequirementDef}
+use Rattle.cl_model.specs.declared.{model.SystemModel.SystemModel, chain.RequirementDef.RequirementDef}
 use Rattle.cl_runs.specs.Requirements.{requirement_at, required_chain, HasLength, IsBrokenBy}
-use Rattle.cl_bound.specs.declared.answer.TaskAnswer.{TaskAnswer}
+use Rattle.cl_bound.specs.{declared.answer.TaskAnswer.TaskAnswer, Answers.answer_at}
 use Rattle.cl_bound.specs.declared.answer.TaskAnswer.TheVariants as answer
-use Rattle.cl_bound.specs.Answers.{answer_at}
 use Rattle.cl_analyse.specs.declared.findings.ChainAnswer.TheVariants as chain
-use Rattle.cl_analyse.specs.declared.findings.Verdict.{Verdict}
+use Rattle.cl_analyse.specs.{declared.findings.Verdict.Verdict, ChainAnswers.chain_answer_at, Verdicts.{required_bound, verdict_at}}
 use Rattle.cl_analyse.specs.declared.findings.Verdict.TheVariants as verdict
-use Rattle.cl_analyse.specs.ChainAnswers.{chain_answer_at}
-use Rattle.cl_analyse.specs.Verdicts.{required_bound, verdict_at}
 use Rattle.cl_tight.specs.TightFindings.{tight_chain_answers_of, tight_findings_of}
 use Rattle.cl_near.specs.Seen.{MissesDeadline, TakesSoLong}
-use Rattle.cl_verify.specs.declared.decision.TaskDecision.{TaskDecision}
+use Rattle.cl_verify.specs.declared.decision.{TaskDecision.TaskDecision, Decision.Decision, Decisions.Decisions}
 use Rattle.cl_verify.specs.declared.decision.TaskDecision.TheVariants as task
-use Rattle.cl_verify.specs.declared.decision.Decision.{Decision}
 use Rattle.cl_verify.specs.declared.decision.Decision.TheVariants as requirement
-use Rattle.cl_verify.specs.declared.decision.Decisions.{Decisions}
 
 -- ---- tasks
 

@@ -1,15 +1,9 @@
 -- The lengths of chains that runs have shown so far.
 use Rattle.std.specs.Prelude.{◌≡◌, ℕ, Option, Some, None, slice_index_or}
-use Rattle.cl_model.specs.declared.chain.LengthKind.TheVariants.{Reaction, Age, Reduced}
-use Rattle.cl_model.specs.declared.chain.RequirementKind.{RequirementKind}
-use Rattle.cl_model.specs.declared.chain.RequirementKind.TheVariants.{Length, Delay}
-use Rattle.cl_model.specs.declared.model.SystemModel.{SystemModel}
-use Rattle.cl_runs.specs.SystemOf.{system_of}
-use Rattle.cl_runs.specs.Requirements.{HasLength}
+use Rattle.cl_model.specs.declared.{chain.{LengthKind.TheVariants.{Reaction, Age, Reduced}, RequirementKind.{RequirementKind, TheVariants.{Length, Delay}}}, model.SystemModel.SystemModel}
+use Rattle.cl_runs.specs.{SystemOf.system_of, Requirements.HasLength}
 use Rattle.cl_tight.specs.Found.{AreWindowsOf}
-use Rattle.cl_verify.specs.declared.known_lengths.LengthsOfChain.{LengthsOfChain}
-use Rattle.cl_verify.specs.declared.known_lengths.KnownLengths.{KnownLengths}
-use Rattle.cl_verify.specs.declared.runs.Runs.{Runs}
+use Rattle.cl_verify.specs.declared.{known_lengths.{LengthsOfChain.LengthsOfChain, KnownLengths.KnownLengths}, runs.Runs.Runs}
 
 -- what is known of a kind: nothing where no run was asked for
 abbrev pub known_of_kind : RequirementKind → LengthsOfChain → Option (Option ℕ)

@@ -2,17 +2,11 @@
 use Rattle.std.specs.Prelude.{◌≡◌, ℕ, ◌+◌, Bool, true, false, List, [], ◌++◌, length, count_by, codes, decimal, Option, Some, None}
 use Rattle.std.specs.List.{flat_map, range_with_len}
 use Rattle.cl_text.specs.Line.{line}
-use Rattle.cl_model.specs.declared.model.SystemModel.{SystemModel}
-use Rattle.cl_model.specs.declared.chain.RequirementDef.{RequirementDef}
-use Rattle.cl_model.specs.Kinds.{requirement_word}
-use Rattle.cl_model.specs.ByNumber.{task_at, deadline_of}
+use Rattle.cl_model.specs.{declared.{model.SystemModel.SystemModel, chain.RequirementDef.RequirementDef}, Kinds.requirement_word, ByNumber.{task_at, deadline_of}}
 use Rattle.cl_runs.specs.Requirements.{requirement_at}
-use Rattle.cl_verify.specs.declared.decision.TaskDecision.{TaskDecision}
+use Rattle.cl_verify.specs.{declared.decision.{TaskDecision.TaskDecision, Decision.Decision, Decisions.Decisions}, Decisions.{task_decision_at, decision_at, AreDecisionsOf}}
 use Rattle.cl_verify.specs.declared.decision.TaskDecision.TheVariants as task
-use Rattle.cl_verify.specs.declared.decision.Decision.{Decision}
 use Rattle.cl_verify.specs.declared.decision.Decision.TheVariants as requirement
-use Rattle.cl_verify.specs.declared.decision.Decisions.{Decisions}
-use Rattle.cl_verify.specs.Decisions.{task_decision_at, decision_at, AreDecisionsOf}
 
 -- ---- the sum
 

@@ -1,13 +1,10 @@
 -- Runs that are to be written, as the tables of their jobs.
 use Rattle.std.specs.Prelude.{ℕ, ◌<◌, Option, Some, None}
 use Rattle.cl_model.specs.declared.model.SystemModel.{SystemModel}
-use Rattle.cl_runs.specs.SystemOf.{system_of}
-use Rattle.cl_runs.specs.Table.{IsLawful}
+use Rattle.cl_runs.specs.{SystemOf.system_of, Table.IsLawful}
 use Rattle.cl_gen.specs.declared.limits.TheConstants.{MOST_RUN_TICKS, MOST_EXECUTIONS}
-use Rattle.cl_bound.specs.declared.answer.TaskAnswer.{TaskAnswer}
-use Rattle.cl_bound.specs.declared.answer.TaskAnswer.TheVariants.{Settled, Late}
-use Rattle.cl_verify.specs.declared.witness.Witness.{Witness}
-use Rattle.cl_verify.specs.declared.witness.Witness.TheVariants.{Table, TooLong, TooMany}
+use Rattle.cl_bound.specs.declared.answer.TaskAnswer.{TaskAnswer, TheVariants.{Settled, Late}}
+use Rattle.cl_verify.specs.declared.witness.Witness.{Witness, TheVariants.{Table, TooLong, TooMany}}
 
 -- the response of a task that isn't late
 abbrev pub settled_response : TaskAnswer → Option ℕ

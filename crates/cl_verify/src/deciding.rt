@@ -1,16 +1,12 @@
 //! Deciding a model, task by task and requirement by requirement. Times are in ticks.
 ghost use Rattle.std.specs.Prelude.{◌≡◌, ℕ, ◌<◌, length, IfOk, IfSome};
-ghost use Rattle.cl_model.specs.declared.model.SystemModel.{SystemModel};
-ghost use Rattle.cl_model.specs.Validity.{IsValid};
+ghost use Rattle.cl_model.specs.{declared.model.SystemModel.SystemModel, Validity.IsValid};
 ghost use Rattle.cl_runs.specs.Requirements.{requirement_at, required_chain, HasLength};
 ghost use Rattle.cl_bound.specs.Answers.{answer_at};
-ghost use Rattle.cl_analyse.specs.declared.findings.Verdict.TheVariants.{Unshown};
-ghost use Rattle.cl_analyse.specs.Verdicts.{limited_bound, verdict_at};
-ghost use Rattle.cl_tight.specs.Promises.{AreSafeTightFindings};
-ghost use Rattle.cl_tight.specs.TightFindings.{tight_findings_of};
+ghost use Rattle.cl_analyse.specs.{declared.findings.Verdict.TheVariants.Unshown, Verdicts.{limited_bound, verdict_at}};
+ghost use Rattle.cl_tight.specs.{Promises.AreSafeTightFindings, TightFindings.tight_findings_of};
 ghost use Rattle.cl_near.specs.Seen.{IsSeenOfTask};
-ghost use Rattle.cl_verify.specs.Decisions.{IsDecisionOnLate, IsDecisionOnTask, IsDecisionByRuns, IsDecisionOn, tight_bound, AreTaskDecisions, AreRequirementDecisions, AreDecisionsOf};
-ghost use Rattle.cl_verify.specs.KnownLengths.{AreRunsOf};
+ghost use Rattle.cl_verify.specs.{Decisions.{IsDecisionOnLate, IsDecisionOnTask, IsDecisionByRuns, IsDecisionOn, tight_bound, AreTaskDecisions, AreRequirementDecisions, AreDecisionsOf}, KnownLengths.AreRunsOf};
 
 use crate::decision::{Decision, Decisions, TaskDecision};
 use crate::runs::Runs;

@@ -1,17 +1,12 @@
 //! What decisions say of every legal run.
 ghost use Rattle.std.specs.Prelude.{◌≡◌, ◌↔◌, ℕ, ◌<◌, true, length};
-ghost use Rattle.cl_model.specs.declared.model.SystemModel.{SystemModel};
-ghost use Rattle.cl_model.specs.Validity.{IsValid};
-ghost use Rattle.cl_runs.specs.Requirements.{requirement_at, IsKept, IsBroken};
-ghost use Rattle.cl_runs.specs.Responses.{AlwaysFinishesWithin};
-ghost use Rattle.cl_runs.specs.SystemOf.{system_of};
+ghost use Rattle.cl_model.specs.{declared.model.SystemModel.SystemModel, Validity.IsValid};
+ghost use Rattle.cl_runs.specs.{Requirements.{requirement_at, IsKept, IsBroken}, Responses.AlwaysFinishesWithin, SystemOf.system_of};
 ghost use Rattle.cl_tight.specs.TightFindings.{tight_findings_of, is_verified};
 ghost use Rattle.cl_near.specs.Seen.{MissesDeadline};
-ghost use Rattle.cl_verify.specs.declared.decision.Decisions.{Decisions};
+ghost use Rattle.cl_verify.specs.{declared.decision.Decisions.Decisions, Decisions.{AreDecisionsOf, task_decision_at, decision_at}, VerifyText.{broken_count, unshown_count}};
 ghost use Rattle.cl_verify.specs.declared.decision.Decision.TheVariants as requirement;
 ghost use Rattle.cl_verify.specs.declared.decision.TaskDecision.TheVariants as task;
-ghost use Rattle.cl_verify.specs.Decisions.{AreDecisionsOf, task_decision_at, decision_at};
-ghost use Rattle.cl_verify.specs.VerifyText.{broken_count, unshown_count};
 
 /// A task that is met finishes within its response in every legal run, and a requirement that is met
 /// is kept in every one.

@@ -1,7 +1,6 @@
 //! The lines of decisions. Times are in ticks.
 ghost use Rattle.std.specs.Prelude.{◌≡◌, ℕ, ◌<◌, ◌++◌, length, OnOk};
-ghost use Rattle.cl_verify.specs.declared.decision.Decision.TheVariants.{Late};
-ghost use Rattle.cl_verify.specs.VerifyText.{seen_words, value_of_words, none_of_words, task_decision_words, task_decision_line, decision_words, decision_line};
+ghost use Rattle.cl_verify.specs.{declared.decision.Decision.TheVariants.Late, VerifyText.{seen_words, value_of_words, none_of_words, task_decision_words, task_decision_line, decision_words, decision_line}};
 
 use crate::decision::{Decision, TaskDecision};
 use cl_model::{RequirementDef, ValidModel};

@@ -2,8 +2,7 @@
 //! executions aren't too many all in all. Times are in ticks.
 ghost use Rattle.std.specs.Prelude.{◌≡◌, ◌<◌, true, length, IfOk, IfSome};
 ghost use Rattle.cl_model.specs.Groups.{groups_at};
-ghost use Rattle.cl_runs.specs.Requirements.{HasLength};
-ghost use Rattle.cl_runs.specs.SystemOf.{system_of};
+ghost use Rattle.cl_runs.specs.{Requirements.HasLength, SystemOf.system_of};
 ghost use Rattle.cl_bound.specs.Answers.{answer_at, is_late, NoneIsLate};
 ghost use Rattle.cl_tight.specs.TightAnswers.{tight_answers_of};
 ghost use Rattle.cl_near.specs.Seen.{IsSeenOfTask};

@@ -1,7 +1,6 @@
 //! The text of what is decided of a model. Times are in ticks.
 ghost use Rattle.std.specs.Prelude.{◌≡◌, ◌+◌, ◌^◌, ◌<◌, ◌++◌, length, count_by, OnOk, IfOk};
-ghost use Rattle.cl_verify.specs.Decisions.{AreRequirementDecisions, AreDecisionsOf};
-ghost use Rattle.cl_verify.specs.VerifyText.{is_task_met, is_task_broken, is_task_unshown, is_requirement_met, is_requirement_broken, is_requirement_unshown, sum_line, task_decision_lines, decision_lines, verify_text};
+ghost use Rattle.cl_verify.specs.{Decisions.{AreRequirementDecisions, AreDecisionsOf}, VerifyText.{is_task_met, is_task_broken, is_task_unshown, is_requirement_met, is_requirement_broken, is_requirement_unshown, sum_line, task_decision_lines, decision_lines, verify_text}};
 
 use crate::decision::{Decision, Decisions, TaskDecision};
 use crate::lines::{put_requirement, put_task};

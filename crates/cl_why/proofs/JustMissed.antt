@@ -3,14 +3,8 @@
 use Rattle.std.proofs.Common.{◌≡◌, ℕ, suc, ◌+◌, ◌-◌, ◌<◌, ◌≤◌, ℤ, pos, ◌+ℤ◌, ◌-ℤ◌, ◌≤ℤ◌, inl, inr, List, length, ap, ◌∙◌, arith}
 use Rattle.std.proofs.lemmas.Bool.{cases_lt}
 use Rattle.std.proofs.lemmas.Int.{ints, by_lt_z}
-use Rattle.cl_phase.specs.declared.pace.Pace.{Pace}
-use Rattle.cl_phase.specs.declared.stop.Stop.{Stop}
-use Rattle.cl_phase.specs.Pace.{first_from, last_by, previous, next}
-use Rattle.cl_phase.specs.Walks.{pace_at, lag_at, onward, back}
-use Rattle.cl_phase.specs.Whole.{missed_at, taken_at}
-use Rattle.cl_phase.proofs.Stepped.{IsStepped}
-use Rattle.cl_phase.proofs.DelaySteps.{next_past}
-use Rattle.cl_phase.proofs.WholeWalks.{missed_back, missed_behind, taken_onward, taken_before}
+use Rattle.cl_phase.specs.{declared.{pace.Pace.Pace, stop.Stop.Stop}, Pace.{first_from, last_by, previous, next}, Walks.{pace_at, lag_at, onward, back}, Whole.{missed_at, taken_at}}
+use Rattle.cl_phase.proofs.{Stepped.IsStepped, DelaySteps.next_past, WholeWalks.{missed_back, missed_behind, taken_onward, taken_before}}
 
 -- the arrival before the first one from a moment on comes before that moment
 previous_earlier : (pace : Pace) → IsStepped pace → (moment : ℤ) → (previous pace (first_from pace moment) +ℤ pos 1) ≤ℤ moment

@@ -2,45 +2,19 @@
 use Rattle.std.proofs.Common.{◌≡◌, ℕ, ◌<◌, Option, List, ◌++◌, length, get_or, map, refl, sym, ap, ◌∙◌, subst}
 use Rattle.std.specs.Prelude.{IfSome}
 use Rattle.std.proofs.lemmas.List.{get_or-map}
-use Rattle.cl_model.specs.declared.model.SystemModel.{SystemModel}
-use Rattle.cl_model.specs.declared.chain.RequirementKind.{RequirementKind}
-use Rattle.cl_model.specs.declared.chain.RequirementDef.{RequirementDef}
-use Rattle.cl_model.specs.declared.group.Group.{Group}
-use Rattle.cl_model.specs.ByNumber.{no_chain, chain_at}
-use Rattle.cl_model.specs.Groups.{groups_at}
-use Rattle.cl_model.specs.Validity.{IsValid}
-use Rattle.cl_runs.specs.Requirements.{no_requirement, requirement_at, required_chain, HasLength}
-use Rattle.cl_runs.specs.SystemOf.{system_of}
-use Rattle.cl_bound.specs.Answers.{answer_at, NoneIsLate}
-use Rattle.cl_bound.specs.Bounds.{Lengths}
-use Rattle.cl_bound.specs.declared.answer.TaskAnswer.{TaskAnswer}
-use Rattle.cl_bound.specs.declared.group_timing.GroupTiming.{GroupTiming}
-use Rattle.cl_analyse.specs.declared.findings.ChainAnswer.{ChainAnswer}
-use Rattle.cl_analyse.specs.declared.findings.ChainAnswer.TheVariants.{Bounds, Late}
-use Rattle.cl_analyse.specs.Verdicts.{limited_bound, verdict_at}
-use Rattle.cl_tight.specs.declared.findings.TightFindings.{TightFindings}
-use Rattle.cl_tight.specs.TightTimings.{tight_timing}
-use Rattle.cl_tight.specs.TightFindings.{tight_chain_answer_of, tight_chain_answers_of, tight_findings_of}
-use Rattle.cl_tight.proofs.TightChains.{tight_given}
-use Rattle.cl_tight.proofs.TightLists.{required_known}
-use Rattle.cl_phase.specs.TightBounds.{tight_bounds}
-use Rattle.cl_phase.specs.declared.whole.WholeWalk.{WholeWalk}
-use Rattle.cl_phase.specs.Whole.{IsWholeWalkOf}
+use Rattle.cl_model.specs.{declared.{model.SystemModel.SystemModel, chain.{RequirementKind.RequirementKind, RequirementDef.RequirementDef}, group.Group.Group}, ByNumber.{no_chain, chain_at}, Groups.groups_at, Validity.IsValid}
+use Rattle.cl_runs.specs.{Requirements.{no_requirement, requirement_at, required_chain, HasLength}, SystemOf.system_of}
+use Rattle.cl_bound.specs.{Answers.{answer_at, NoneIsLate}, Bounds.Lengths, declared.{answer.TaskAnswer.TaskAnswer, group_timing.GroupTiming.GroupTiming}}
+use Rattle.cl_analyse.specs.{declared.findings.ChainAnswer.{ChainAnswer, TheVariants.{Bounds, Late}}, Verdicts.{limited_bound, verdict_at}}
+use Rattle.cl_tight.specs.{declared.findings.TightFindings.TightFindings, TightTimings.tight_timing, TightFindings.{tight_chain_answer_of, tight_chain_answers_of, tight_findings_of}}
+use Rattle.cl_tight.proofs.{TightChains.tight_given, TightLists.required_known}
+use Rattle.cl_phase.specs.{TightBounds.tight_bounds, declared.whole.WholeWalk.WholeWalk, Whole.IsWholeWalkOf}
 use Rattle.cl_report.specs.Report.{chain_line}
 use Rattle.cl_report.proofs.TightLines.{tight_chains_found, tight_late_known}
-use Rattle.cl_verify.specs.declared.decision.TaskDecision.{TaskDecision}
-use Rattle.cl_verify.specs.declared.decision.Decision.{Decision}
+use Rattle.cl_verify.specs.{declared.decision.{TaskDecision.TaskDecision, Decision.Decision}, Decisions.{IsDecisionOnTask, IsDecisionOn}, VerifyText.{task_decision_line, decision_line}}
 use Rattle.cl_verify.specs.declared.decision.Decision.TheVariants as requirement
-use Rattle.cl_verify.specs.Decisions.{IsDecisionOnTask, IsDecisionOn}
-use Rattle.cl_verify.specs.VerifyText.{task_decision_line, decision_line}
-use Rattle.cl_verify.proofs.ByFindings.{tasks_of_findings, chain_found}
-use Rattle.cl_verify.proofs.DecisionLines.{late_answered}
-use Rattle.cl_why.specs.declared.window.Window.{Window}
-use Rattle.cl_why.specs.Shares.{window_lines}
-use Rattle.cl_why.specs.Hops.{group_lines}
-use Rattle.cl_why.specs.Walks.{walk_lines}
-use Rattle.cl_why.specs.Inner.{IsWindowOf, HasJobsOf}
-use Rattle.cl_why.specs.Reasons.{title, bound_line, IsReasonOfTask, IsReasonOfBound, IsReasonBy, IsReasonOfChain, IsWhyOfRequirement, Appends}
+use Rattle.cl_verify.proofs.{ByFindings.{tasks_of_findings, chain_found}, DecisionLines.late_answered}
+use Rattle.cl_why.specs.{declared.window.Window.Window, Shares.window_lines, Hops.group_lines, Walks.walk_lines, Inner.{IsWindowOf, HasJobsOf}, Reasons.{title, bound_line, IsReasonOfTask, IsReasonOfBound, IsReasonBy, IsReasonOfChain, IsWhyOfRequirement, Appends}}
 use Rattle.cl_why.proofs.TimedGroups.{two_pieces, three_pieces}
 
 -- ---- of a task

@@ -3,46 +3,21 @@ use Rattle.std.proofs.Common.{◌≡◌, ℕ, suc, ◌+◌, ◌<◌, ◌≤◌, 
 use Rattle.std.specs.Prelude.{◌==◌}
 use Rattle.std.proofs.lemmas.Int.{ints}
 use Rattle.std.proofs.lemmas.List.Elements.{All-weaker}
-use Rattle.cl_model.specs.declared.chain.LengthKind.TheVariants.{Reaction, Age, Reduced}
-use Rattle.cl_model.specs.declared.chain.RequirementKind.{RequirementKind}
-use Rattle.cl_model.specs.declared.chain.RequirementKind.TheVariants.{Length, Delay}
-use Rattle.cl_model.specs.declared.group.Group.{Group}
-use Rattle.cl_model.specs.declared.model.SystemModel.{SystemModel}
-use Rattle.cl_model.specs.ByNumber.{chain_at}
-use Rattle.cl_model.specs.Groups.{IsGroupOf, group_at, groups_at}
-use Rattle.cl_model.specs.Holds.{greatest_by}
+use Rattle.cl_model.specs.{declared.{chain.{LengthKind.TheVariants.{Reaction, Age, Reduced}, RequirementKind.{RequirementKind, TheVariants.{Length, Delay}}}, group.Group.Group, model.SystemModel.SystemModel}, ByNumber.chain_at, Groups.{IsGroupOf, group_at, groups_at}, Holds.greatest_by}
 use Rattle.cl_model.specs.Validity.{IsValid}
 use Rattle.cl_model.proofs.GroupFacts.{groups_at_are, groups_at_some}
-use Rattle.cl_runs.specs.TaskTiming.{System}
-use Rattle.cl_runs.specs.SystemOf.{system_of}
+use Rattle.cl_runs.specs.{TaskTiming.System, SystemOf.system_of}
 use Rattle.cl_runs.proofs.ModelSystem.{system_sound}
-use Rattle.cl_bound.specs.Bounds.{Lengths}
-use Rattle.cl_bound.specs.Hops.{saves, lag}
-use Rattle.cl_bound.specs.SettledChains.{IsGroupOfTask}
-use Rattle.cl_bound.specs.declared.group_timing.GroupTiming.{GroupTiming}
+use Rattle.cl_bound.specs.{Bounds.Lengths, Hops.{saves, lag}, SettledChains.IsGroupOfTask, declared.group_timing.GroupTiming.GroupTiming}
 use Rattle.cl_bound.proofs.ModelGroups.{group_of_system}
-use Rattle.cl_phase.specs.declared.stop.Stop.{Stop}
-use Rattle.cl_phase.specs.declared.whole.WholeWalk.{WholeWalk}
-use Rattle.cl_phase.specs.Pace.{IsPace, previous}
-use Rattle.cl_phase.specs.Walks.{pace_at, lag_at, last_place}
-use Rattle.cl_phase.specs.TightBounds.{stops_of, span_of, last_write, slowest, hyperperiod_in, starts, ticks_or_none, bounds_from, tight_bounds}
-use Rattle.cl_phase.specs.Walked.{lasts_from, walk_start}
-use Rattle.cl_phase.specs.Whole.{missed_at, taken_at, counted_at}
-use Rattle.cl_phase.specs.CompleteChains.{AreSomeTicks}
-use Rattle.cl_phase.proofs.LongestStarts.{LastsFromStart, longest_from_start}
-use Rattle.cl_phase.proofs.StopFacts.{length_stops, stop_lag, stop_is_pace, stops_slowest}
-use Rattle.cl_phase.proofs.PaceSteps.{paces_step}
-use Rattle.cl_phase.proofs.ShownStarts.{fails_where}
-use Rattle.cl_analyse.specs.declared.findings.ChainAnswer.TheVariants.{Bounds}
-use Rattle.cl_analyse.specs.Verdicts.{limited_bound}
-use Rattle.cl_tight.specs.TightTimings.{tight_timing}
-use Rattle.cl_tight.specs.TightFindings.{tight_chain_answer_of}
+use Rattle.cl_phase.specs.{declared.{stop.Stop.Stop, whole.WholeWalk.WholeWalk}, Pace.{IsPace, previous}, Walks.{pace_at, lag_at, last_place}, TightBounds.{stops_of, span_of, last_write, slowest, hyperperiod_in, starts, ticks_or_none, bounds_from, tight_bounds}, Walked.lasts_from}
+use Rattle.cl_phase.specs.{Walked.walk_start, Whole.{missed_at, taken_at, counted_at}, CompleteChains.AreSomeTicks}
+use Rattle.cl_phase.proofs.{LongestStarts.{LastsFromStart, longest_from_start}, StopFacts.{length_stops, stop_lag, stop_is_pace, stops_slowest}, PaceSteps.paces_step, ShownStarts.fails_where}
+use Rattle.cl_analyse.specs.{declared.findings.ChainAnswer.TheVariants.Bounds, Verdicts.limited_bound}
+use Rattle.cl_tight.specs.{TightTimings.tight_timing, TightFindings.tight_chain_answer_of}
 use Rattle.cl_tight.proofs.TightChains.{tight_answer, tight_given, tight_bounds_some}
-use Rattle.cl_why.specs.Hops.{timing_at_place, missed_at as listed_missed, taken_at as listed_taken}
-use Rattle.cl_why.specs.Walks.{walk_from, walk_to, read_of_first, write_of_last}
-use Rattle.cl_why.specs.Promises.{handed_over, IsMissedBy, IsWalkOfBound, LastAsBounds}
-use Rattle.cl_why.proofs.JustMissed.{just_misses}
-use Rattle.cl_why.proofs.WalksLast.{ticks, misses_at, takes_at, lasts, last_write_is, span_is}
+use Rattle.cl_why.specs.{Hops.{timing_at_place, missed_at as listed_missed, taken_at as listed_taken}, Walks.{walk_from, walk_to, read_of_first, write_of_last}, Promises.{handed_over, IsMissedBy, IsWalkOfBound, LastAsBounds}}
+use Rattle.cl_why.proofs.{JustMissed.just_misses, WalksLast.{ticks, misses_at, takes_at, lasts, last_write_is, span_is}}
 
 -- ---- of groups
 

@@ -4,17 +4,12 @@ use Rattle.std.specs.Prelude.{codes, decimal}
 use Rattle.std.proofs.lemmas.Bool.{lt-ltb}
 use Rattle.std.proofs.lemmas.List.{append_assoc}
 use Rattle.cl_text.specs.Line.{line}
-use Rattle.cl_model.specs.declared.model.SystemModel.{SystemModel}
-use Rattle.cl_model.specs.ByNumber.{task_at}
-use Rattle.cl_runs.specs.TaskTiming.{timing_at}
-use Rattle.cl_runs.specs.SystemOf.{system_of}
-use Rattle.cl_runs.specs.Priorities.{is_above}
+use Rattle.cl_model.specs.{declared.model.SystemModel.SystemModel, ByNumber.task_at}
+use Rattle.cl_runs.specs.{TaskTiming.timing_at, SystemOf.system_of, Priorities.is_above}
 use Rattle.cl_cycle.specs.Cycles.{is_one_of, in_phase_above}
 use Rattle.cl_resp.specs.declared.worst.WorstWindow.{WorstWindow}
 use Rattle.cl_explain.specs.Parts.{where_some}
-use Rattle.cl_why.specs.Windows.{end_of, jobs_in_window, time_in_window, time_past_window}
-use Rattle.cl_why.specs.Shares.{window_line, free_words, jobs_share, above_share}
-use Rattle.cl_why.specs.Inner.{window_until, jobs_line}
+use Rattle.cl_why.specs.{Windows.{end_of, jobs_in_window, time_in_window, time_past_window}, Shares.{window_line, free_words, jobs_share, above_share}, Inner.{window_until, jobs_line}}
 
 where_more : (number : ℕ) → (number ≡ 0 → ⊥) → (text : List ℕ) → text ≡ where_some number text
 where_more number some text =

@@ -3,28 +3,13 @@ use Rattle.std.proofs.Common.{◌≡◌, ℕ, ◌-◌, ◌*◌, ◌<◌, Bool, i
 use Rattle.std.proofs.lemmas.Bool.{cases_lt, eq-eqb}
 use Rattle.std.proofs.lemmas.Int.{ints}
 use Rattle.std.proofs.lemmas.List.FromFn.{length-map-range_with_len, get_or-map-range_with_len}
-use Rattle.cl_model.specs.declared.chain.LengthKind.TheVariants.{Reaction, Age, Reduced}
-use Rattle.cl_model.specs.declared.chain.RequirementKind.{RequirementKind}
-use Rattle.cl_model.specs.declared.chain.RequirementKind.TheVariants.{Length, Delay}
-use Rattle.cl_model.specs.declared.group.Group.{Group}
-use Rattle.cl_model.specs.Groups.{group_at}
+use Rattle.cl_model.specs.{declared.{chain.{LengthKind.TheVariants.{Reaction, Age, Reduced}, RequirementKind.{RequirementKind, TheVariants.{Length, Delay}}}, group.Group.Group}, Groups.group_at}
 use Rattle.cl_bound.specs.declared.group_timing.GroupTiming.{GroupTiming}
 use Rattle.cl_bound.proofs.AlongChains.{last_timing}
-use Rattle.cl_phase.specs.declared.pace.Pace.{Pace}
-use Rattle.cl_phase.specs.declared.stop.Stop.{Stop}
-use Rattle.cl_phase.specs.declared.whole.WholeWalk.{WholeWalk}
-use Rattle.cl_phase.specs.Pace.{IsPace, previous, next}
-use Rattle.cl_phase.specs.Walks.{pace_at, last_place, onward, back, arrival_at_first, arrival_at_last}
-use Rattle.cl_phase.specs.TightBounds.{span_of, last_write, slowest, hyperperiod_in}
-use Rattle.cl_phase.specs.Walked.{walk_start}
+use Rattle.cl_phase.specs.{declared.{pace.Pace.Pace, stop.Stop.Stop, whole.WholeWalk.WholeWalk}, Pace.{IsPace, previous, next}, Walks.{pace_at, last_place, onward, back, arrival_at_first, arrival_at_last}, TightBounds.{span_of, last_write, slowest, hyperperiod_in}, Walked.walk_start}
 use Rattle.cl_phase.specs.Whole.{missed_at, taken_at, counted_at, IsMovedWalk}
-use Rattle.cl_phase.proofs.DelaySteps.{next_past, next_of_previous}
-use Rattle.cl_phase.proofs.LongestStarts.{LastsFromStart}
-use Rattle.cl_phase.proofs.PaceSteps.{paces_step}
-use Rattle.cl_phase.proofs.WalkStarts.{IsArrivalAt}
-use Rattle.cl_phase.proofs.WholeWalks.{missed_back, taken_onward, taken_before}
-use Rattle.cl_why.specs.Hops.{missed_at as listed_missed, taken_at as listed_taken}
-use Rattle.cl_why.specs.Walks.{walk_from, walk_to}
+use Rattle.cl_phase.proofs.{DelaySteps.{next_past, next_of_previous}, LongestStarts.LastsFromStart, PaceSteps.paces_step, WalkStarts.IsArrivalAt, WholeWalks.{missed_back, taken_onward, taken_before}}
+use Rattle.cl_why.specs.{Hops.{missed_at as listed_missed, taken_at as listed_taken}, Walks.{walk_from, walk_to}}
 
 -- the arrival after the one before an arrival is that arrival
 next_is : (pace : Pace) → IsPace pace → (arrival : ℤ) → IsArrivalAt pace arrival → next pace (previous pace arrival) ≡ arrival

@@ -6,25 +6,14 @@ use Rattle.std.proofs.Math.Nat.{mul-le-mul_right}
 use Rattle.std.proofs.lemmas.Bool.{cases_lt}
 use Rattle.std.proofs.lemmas.Int.{ints, by_lt_z}
 use Rattle.std.proofs.lemmas.List.Sums.{sum_by-le-sum_by}
-use Rattle.cl_model.specs.declared.stimulus.StimulusKind.{StimulusKind}
-use Rattle.cl_model.specs.Timing.{greatest_jitter}
-use Rattle.cl_runs.specs.TaskTiming.{System, timing_at, IsSound}
-use Rattle.cl_runs.specs.Priorities.{tasks_above}
-use Rattle.cl_stim.specs.declared.phase.Phase.{Phase}
-use Rattle.cl_stim.specs.Phase.{IsArrivalOf, last_arrival, phase_of}
-use Rattle.cl_stim.proofs.PhaseSteps.{last_before, last_within}
-use Rattle.cl_stim.proofs.Releases.{most_rises}
-use Rattle.cl_cycle.specs.Counts.{each_moment}
-use Rattle.cl_cycle.specs.Cycles.{is_one_of, in_phase_above, cycle_of}
+use Rattle.cl_model.specs.{declared.stimulus.StimulusKind.StimulusKind, Timing.greatest_jitter}
+use Rattle.cl_runs.specs.{TaskTiming.{System, timing_at, IsSound}, Priorities.tasks_above}
+use Rattle.cl_stim.specs.{declared.phase.Phase.Phase, Phase.{IsArrivalOf, last_arrival, phase_of}}
+use Rattle.cl_stim.proofs.{PhaseSteps.{last_before, last_within}, Releases.most_rises}
+use Rattle.cl_cycle.specs.{Counts.each_moment, Cycles.{is_one_of, in_phase_above, cycle_of}}
 use Rattle.cl_cycle.proofs.CountedTicks.{wider_has}
-use Rattle.cl_resp.specs.declared.worst.WorstWindow.{WorstWindow}
-use Rattle.cl_resp.specs.Asked.{Asked, MayBegin, EndsBy, AnswersWithin, ComesRound}
-use Rattle.cl_resp.specs.ByPhase.{phase_if, released_by, time_by, demand_by, asked_by_phase}
-use Rattle.cl_resp.specs.Question.{greatest_execution}
-use Rattle.cl_resp.specs.Worst.{within_of, NoneEndsBy, IsCandidate, IsWorstBy}
-use Rattle.cl_resp.proofs.LeastMoved.{ComesIn, whole_cycles, ends_later}
-use Rattle.cl_resp.proofs.LeastRound.{asked_comes_round}
-use Rattle.cl_resp.proofs.PhasedAnswers.{through_between}
+use Rattle.cl_resp.specs.{declared.worst.WorstWindow.WorstWindow, Asked.{Asked, MayBegin, EndsBy, AnswersWithin, ComesRound}, ByPhase.{phase_if, released_by, time_by, demand_by, asked_by_phase}, Question.greatest_execution, Worst.{within_of, NoneEndsBy, IsCandidate, IsWorstBy}}
+use Rattle.cl_resp.proofs.{LeastMoved.{ComesIn, whole_cycles, ends_later}, LeastRound.asked_comes_round, PhasedAnswers.through_between}
 use Rattle.cl_near.specs.Plans.{IsWindowOfRun}
 use Rattle.cl_phase.specs.TightBounds.{ticks_or_none}
 
@@ -33,9 +22,6 @@ use Rattle.cl_phase.specs.TightBounds.{ticks_or_none}
 ticks_are : (z : ℤ) → pos 0 ≤ℤ z → pos (ticks_or_none z) ≡ z
 ticks_are (pos ticks) some = refl
 ticks_are (negsuc lacking) some = absurd (omega (arith, ints, some))
-
-itself : (z : ℤ) → z ≤ℤ z
-itself z = omega (arith, ints)
 
 between : (end start : ℤ) (ticks : ℕ) → (start +ℤ pos ticks) ≡ end → (end -ℤ start) ≡ pos ticks
 between end start ticks is = omega (arith, ints, is)

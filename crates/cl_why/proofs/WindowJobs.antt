@@ -1,28 +1,14 @@
 -- How many jobs of another task are released in a worst window, as the code counts them.
-use Rattle.std.proofs.Common.{◌≡◌, ℕ, ◌+◌, ◌*◌, ◌<◌, ◌≤◌, Bool, true, false, Option, Some, None, unwrap_or, ℤ, pos, ◌-ℤ◌, length, refl, sym, ap, ◌∙◌, subst, arith}
-use Rattle.cl_model.specs.declared.model.SystemModel.{SystemModel}
-use Rattle.cl_model.specs.declared.stimulus.StimulusKind.{StimulusKind}
-use Rattle.cl_model.specs.declared.stimulus.StimulusKind.TheVariants.{Periodic, Sporadic, Burst}
-use Rattle.cl_model.specs.ByNumber.{stimulus_of, jitter_of, time_of}
-use Rattle.cl_model.specs.Ranges.{IsKindInRange}
-use Rattle.cl_model.specs.Timing.{greatest_jitter}
-use Rattle.cl_model.specs.Validity.{IsValid}
+use Rattle.std.proofs.Common.{◌≡◌, ℕ, ◌+◌, ◌*◌, ◌<◌, ◌≤◌, true, false, Option, Some, None, unwrap_or, ℤ, pos, ◌-ℤ◌, length, refl, sym, ap, ◌∙◌, subst, arith}
+use Rattle.cl_model.specs.{declared.{model.SystemModel.SystemModel, stimulus.StimulusKind.{StimulusKind, TheVariants.{Periodic, Sporadic, Burst}}}, ByNumber.{stimulus_of, jitter_of, time_of}, Ranges.IsKindInRange, Timing.greatest_jitter, Validity.IsValid}
 use Rattle.cl_model.proofs.ValidTasks.{kind_in_range}
-use Rattle.cl_runs.specs.TaskTiming.{Timing, timing_at}
-use Rattle.cl_runs.specs.SystemOf.{system_of}
+use Rattle.cl_runs.specs.{TaskTiming.{Timing, timing_at}, SystemOf.system_of}
 use Rattle.cl_runs.proofs.ModelSystem.{count_is, system_sound, timing_is}
-use Rattle.cl_stim.specs.declared.phase.Phase.{Phase}
-use Rattle.cl_stim.specs.AnyStimulus.{kind_of, as_stimulus}
-use Rattle.cl_stim.specs.Phase.{phase_of}
-use Rattle.cl_stim.specs.Releases.{most_releases}
-use Rattle.cl_cycle.specs.Counts.{arrivals_from, arrivals_of, each_moment}
-use Rattle.cl_cycle.specs.Cycles.{is_one_of, in_phase_above}
+use Rattle.cl_stim.specs.{declared.phase.Phase.Phase, AnyStimulus.{kind_of, as_stimulus}, Phase.phase_of, Releases.most_releases}
+use Rattle.cl_cycle.specs.{Counts.{arrivals_from, arrivals_of, each_moment}, Cycles.{is_one_of, in_phase_above}}
 use Rattle.cl_cycle.proofs.CycleMembers.{members_come_round}
-use Rattle.cl_resp.specs.declared.worst.WorstWindow.{WorstWindow}
-use Rattle.cl_resp.specs.ByPhase.{phase_if, released_by}
-use Rattle.cl_resp.specs.Question.{greatest_execution}
-use Rattle.cl_resp.proofs.Questions.{time_is}
-use Rattle.cl_resp.proofs.StimulusKinds.{kind_of-as_stimulus}
+use Rattle.cl_resp.specs.{declared.worst.WorstWindow.WorstWindow, ByPhase.{phase_if, released_by}, Question.greatest_execution}
+use Rattle.cl_resp.proofs.{Questions.time_is, StimulusKinds.kind_of-as_stimulus}
 use Rattle.cl_why.specs.Windows.{width_of, jobs_in_window, time_in_window}
 
 few : (kind : StimulusKind) → IsKindInRange kind → greatest_jitter kind ≤ 1000000000000
@@ -43,9 +29,6 @@ module _ (model : SystemModel) (task other : ℕ) (in_model : other < length mod
   module _ (window : WorstWindow) where
     abbrev start : ℤ
     start = window.start
-
-    abbrev in_phase : Bool
-    in_phase = is_one_of (in_phase_above (system_of model) task) other
 
     -- of a task that isn't in phase
     pub free_jobs : is_one_of (in_phase_above (system_of model) task) other ≡ false → (kind : StimulusKind) (width jobs : ℕ) → kind ≡ stimulus_of model other

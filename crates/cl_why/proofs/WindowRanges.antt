@@ -2,26 +2,14 @@
 use Rattle.std.proofs.Common.{◌≡◌, ℕ, ◌+◌, ◌<◌, ◌≤◌, Option, Some, None, ℤ, pos, negsuc, ◌+ℤ◌, ◌-ℤ◌, ◌≤ℤ◌, length, sym, ap, ◌∙◌, subst, arith}
 use Rattle.std.specs.Option.{option_map}
 use Rattle.std.proofs.lemmas.Int.{ints}
-use Rattle.cl_model.specs.declared.model.SystemModel.{SystemModel}
-use Rattle.cl_model.specs.declared.stimulus.StimulusKind.{StimulusKind}
-use Rattle.cl_model.specs.declared.stimulus.StimulusKind.TheVariants.{Periodic, Sporadic, Burst}
-use Rattle.cl_model.specs.Ranges.{IsKindInRange}
-use Rattle.cl_model.specs.Validity.{IsValid}
+use Rattle.cl_model.specs.{declared.{model.SystemModel.SystemModel, stimulus.StimulusKind.{StimulusKind, TheVariants.{Periodic, Sporadic, Burst}}}, Ranges.IsKindInRange, Validity.IsValid}
 use Rattle.cl_model.proofs.ValidTasks.{kind_in_range}
-use Rattle.cl_runs.specs.TaskTiming.{System, Timing, timing_at}
-use Rattle.cl_runs.specs.SystemOf.{system_of}
+use Rattle.cl_runs.specs.{TaskTiming.{System, Timing, timing_at}, SystemOf.system_of}
 use Rattle.cl_runs.proofs.ModelSystem.{count_is, system_sound, timing_is}
 use Rattle.cl_cycle.specs.Counts.{arrivals_of}
-use Rattle.cl_resp.specs.declared.question.Block.TheVariants.{OfLower}
-use Rattle.cl_resp.specs.declared.worst.WorstWindow.{WorstWindow}
-use Rattle.cl_resp.specs.ByPhase.{response_by_phase}
-use Rattle.cl_resp.specs.Question.{tight_question_of}
-use Rattle.cl_resp.specs.Response.{Response}
-use Rattle.cl_resp.specs.Worst.{less_than}
-use Rattle.cl_resp.proofs.Questions.{questions_in_range}
-use Rattle.cl_resp.proofs.WorstTasks.{within_below}
-use Rattle.cl_bound.specs.declared.answer.TaskAnswer.{TaskAnswer}
-use Rattle.cl_bound.specs.Answers.{answer_at, answer_with}
+use Rattle.cl_resp.specs.{declared.{question.Block.TheVariants.OfLower, worst.WorstWindow.WorstWindow}, ByPhase.response_by_phase, Question.tight_question_of, Response.Response, Worst.less_than}
+use Rattle.cl_resp.proofs.{Questions.questions_in_range, WorstTasks.within_below}
+use Rattle.cl_bound.specs.{declared.answer.TaskAnswer.TaskAnswer, Answers.{answer_at, answer_with}}
 use Rattle.cl_phase.specs.TightBounds.{ticks_or_none}
 use Rattle.cl_tight.specs.TightAnswers.{tight_answers_of}
 use Rattle.cl_tight.proofs.TightTasks.{phased_answer}

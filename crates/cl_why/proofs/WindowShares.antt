@@ -2,27 +2,17 @@
 use Rattle.std.proofs.Common.{◌≡◌, ℕ, ◌-◌, ◌<◌, ◌≤◌, Option, Some, None, ℤ, pos, ◌+ℤ◌, ◌-ℤ◌, length, refl, sym, ap, ◌∙◌, subst, arith}
 use Rattle.std.specs.Option.{option_map}
 use Rattle.std.proofs.lemmas.Int.{ints}
-use Rattle.cl_model.specs.declared.model.SystemModel.{SystemModel}
-use Rattle.cl_model.specs.Validity.{IsValid}
-use Rattle.cl_runs.specs.TaskTiming.{System, timing_at, IsSound}
-use Rattle.cl_runs.specs.SystemOf.{system_of}
+use Rattle.cl_model.specs.{declared.model.SystemModel.SystemModel, Validity.IsValid}
+use Rattle.cl_runs.specs.{TaskTiming.{System, timing_at, IsSound}, SystemOf.system_of}
 use Rattle.cl_runs.proofs.ModelSystem.{count_is, system_sound}
-use Rattle.cl_resp.specs.declared.worst.WorstWindow.{WorstWindow}
-use Rattle.cl_resp.specs.Asked.{Asked}
-use Rattle.cl_resp.specs.ByPhase.{demand_by, asked_by_phase, response_by_phase}
-use Rattle.cl_resp.specs.Question.{greatest_execution}
-use Rattle.cl_resp.specs.Response.{Response}
-use Rattle.cl_resp.specs.Worst.{less_than, within_of}
+use Rattle.cl_resp.specs.{declared.worst.WorstWindow.WorstWindow, Asked.Asked, ByPhase.{demand_by, asked_by_phase, response_by_phase}, Question.greatest_execution, Response.Response, Worst.{less_than, within_of}}
 use Rattle.cl_resp.proofs.LeastParts.{settled_least}
-use Rattle.cl_bound.specs.declared.answer.TaskAnswer.{TaskAnswer}
-use Rattle.cl_bound.specs.declared.answer.TaskAnswer.TheVariants.{Settled, Late}
-use Rattle.cl_bound.specs.Answers.{answer_at, answer_with, is_late, response_in}
+use Rattle.cl_bound.specs.{declared.answer.TaskAnswer.{TaskAnswer, TheVariants.{Settled, Late}}, Answers.{answer_at, answer_with, is_late, response_in}}
 use Rattle.cl_phase.specs.TightBounds.{ticks_or_none}
 use Rattle.cl_tight.specs.TightAnswers.{tight_answers_of, tight_response}
 use Rattle.cl_tight.proofs.TightTasks.{phased_answer, tight_task}
 use Rattle.cl_near.specs.Plans.{IsWindowOfRun}
-use Rattle.cl_why.specs.Promises.{AddUpToWindow, AddUpPastWindow, AddUpInWindows}
-use Rattle.cl_why.specs.Windows.{reach_of, end_of, width_of, sum_of_shares}
+use Rattle.cl_why.specs.{Promises.{AddUpToWindow, AddUpPastWindow, AddUpInWindows}, Windows.{reach_of, end_of, width_of, sum_of_shares}}
 use Rattle.cl_why.proofs.WindowDemand.{IsUnended, window_unended, asks_all, asks_more}
 
 -- the shares are what is asked of the window

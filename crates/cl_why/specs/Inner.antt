@@ -2,19 +2,13 @@
 use Rattle.std.specs.Prelude.{◌≡◌, ℕ, ℤ, ◌<◌, Bool, List, ◌++◌, length, codes, decimal}
 use Rattle.std.specs.Fmt.{signed_decimal}
 use Rattle.cl_text.specs.Line.{line}
-use Rattle.cl_model.specs.declared.group.Group.{Group}
-use Rattle.cl_model.specs.declared.model.SystemModel.{SystemModel}
-use Rattle.cl_model.specs.ByNumber.{task_at}
-use Rattle.cl_runs.specs.TaskTiming.{timing_at}
-use Rattle.cl_runs.specs.SystemOf.{system_of}
+use Rattle.cl_model.specs.{declared.{group.Group.Group, model.SystemModel.SystemModel}, ByNumber.task_at}
+use Rattle.cl_runs.specs.{TaskTiming.timing_at, SystemOf.system_of}
 use Rattle.cl_cycle.specs.Promises.{IsCycleOf}
-use Rattle.cl_resp.specs.declared.worst.WorstWindow.{WorstWindow}
-use Rattle.cl_resp.specs.Question.{greatest_execution, lower_block_of}
+use Rattle.cl_resp.specs.{declared.worst.WorstWindow.WorstWindow, Question.{greatest_execution, lower_block_of}}
 use Rattle.cl_phase.specs.declared.whole.WholeWalk.{WholeWalk}
 use Rattle.cl_near.specs.Plans.{IsWindowOfRun, IsWindowNear}
-use Rattle.cl_why.specs.declared.window.Window.{Window}
-use Rattle.cl_why.specs.Windows.{end_of}
-use Rattle.cl_why.specs.Shares.{over_words, free_words}
+use Rattle.cl_why.specs.{declared.window.Window.Window, Windows.end_of, Shares.{over_words, free_words}}
 
 -- the worst window of a task, with what its shares are counted from
 pub record IsWindowOf (model : SystemModel) (task : ℕ) (window : Window) : Type 0 where

@@ -1,29 +1,16 @@
 -- What reasons promise: shares add up to their window, walks last as long as their bound, and a job of a reader that arrives
 -- so much later takes what is written. Times are in ticks, and moments may lie before 0.
 use Rattle.std.specs.Prelude.{◌≡◌, ℕ, ◌+◌, ◌<◌, ◌≤◌, pos, ◌+ℤ◌, ◌≤ℤ◌, true, false, ◌==◌, if◌then◌else◌, length}
-use Rattle.cl_model.specs.declared.chain.RequirementKind.{RequirementKind}
-use Rattle.cl_model.specs.declared.model.SystemModel.{SystemModel}
-use Rattle.cl_model.specs.ByNumber.{chain_at}
-use Rattle.cl_model.specs.Groups.{groups_at}
+use Rattle.cl_model.specs.{declared.{chain.RequirementKind.RequirementKind, model.SystemModel.SystemModel}, ByNumber.chain_at, Groups.groups_at}
 use Rattle.cl_runs.specs.SystemOf.{system_of}
-use Rattle.cl_resp.specs.declared.worst.WorstWindow.{WorstWindow}
-use Rattle.cl_resp.specs.Response.{Response}
+use Rattle.cl_resp.specs.{declared.worst.WorstWindow.WorstWindow, Response.Response}
 use Rattle.cl_bound.specs.declared.answer.TaskAnswer.TheVariants as answer
-use Rattle.cl_bound.specs.declared.group_timing.GroupTiming.{GroupTiming}
-use Rattle.cl_bound.specs.Answers.{answer_at}
-use Rattle.cl_bound.specs.Bounds.{Lengths}
-use Rattle.cl_bound.specs.Hops.{saves, lag}
-use Rattle.cl_phase.specs.declared.whole.WholeWalk.{WholeWalk}
-use Rattle.cl_phase.specs.Whole.{IsWholeWalkOf}
-use Rattle.cl_analyse.specs.declared.findings.ChainAnswer.TheVariants.{Bounds}
-use Rattle.cl_analyse.specs.Verdicts.{limited_bound}
-use Rattle.cl_tight.specs.TightAnswers.{tight_answers_of}
-use Rattle.cl_tight.specs.TightTimings.{tight_timing}
-use Rattle.cl_tight.specs.TightFindings.{tight_chain_answer_of}
+use Rattle.cl_bound.specs.{declared.group_timing.GroupTiming.GroupTiming, Answers.answer_at, Bounds.Lengths, Hops.{saves, lag}}
+use Rattle.cl_phase.specs.{declared.whole.WholeWalk.WholeWalk, Whole.IsWholeWalkOf}
+use Rattle.cl_analyse.specs.{declared.findings.ChainAnswer.TheVariants.Bounds, Verdicts.limited_bound}
+use Rattle.cl_tight.specs.{TightAnswers.tight_answers_of, TightTimings.tight_timing, TightFindings.tight_chain_answer_of}
 use Rattle.cl_near.specs.Plans.{IsWindowOfRun}
-use Rattle.cl_why.specs.Windows.{end_of, sum_of_shares, time_past_window}
-use Rattle.cl_why.specs.Hops.{timing_at_place, kept_at, missed_at, taken_at, missed_by}
-use Rattle.cl_why.specs.Walks.{walk_from, walk_to, read_of_first, write_of_last}
+use Rattle.cl_why.specs.{Windows.{end_of, sum_of_shares, time_past_window}, Hops.{timing_at_place, kept_at, missed_at, taken_at, missed_by}, Walks.{walk_from, walk_to, read_of_first, write_of_last}}
 
 -- the shares of a task that isn't late add up to its window, which ends a response after the arrival
 pub record AddUpToWindow (model : SystemModel) (task : ℕ) (window : WorstWindow) (response : ℕ) : Type 0 where

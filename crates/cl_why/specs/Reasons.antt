@@ -1,31 +1,17 @@
 -- The text of why a task is answered, or a chain or a requirement bounded, as the decisions on a model say.
 use Rattle.std.specs.Prelude.{◌≡◌, ℕ, List, ◌++◌, Option, IfSome, codes, decimal}
 use Rattle.cl_text.specs.Line.{line}
-use Rattle.cl_model.specs.declared.chain.RequirementKind.{RequirementKind}
-use Rattle.cl_model.specs.declared.model.SystemModel.{SystemModel}
-use Rattle.cl_model.specs.Kinds.{requirement_word}
-use Rattle.cl_model.specs.ByNumber.{chain_at}
-use Rattle.cl_model.specs.Groups.{groups_at}
-use Rattle.cl_runs.specs.SystemOf.{system_of}
-use Rattle.cl_runs.specs.Requirements.{requirement_at, required_chain, HasLength}
+use Rattle.cl_model.specs.{declared.{chain.RequirementKind.RequirementKind, model.SystemModel.SystemModel}, Kinds.requirement_word, ByNumber.chain_at, Groups.groups_at}
+use Rattle.cl_runs.specs.{SystemOf.system_of, Requirements.{requirement_at, required_chain, HasLength}}
 use Rattle.cl_resp.specs.declared.worst.WorstWindow.{WorstWindow}
 use Rattle.cl_bound.specs.Answers.{answer_at}
-use Rattle.cl_phase.specs.declared.whole.WholeWalk.{WholeWalk}
-use Rattle.cl_phase.specs.Whole.{IsWholeWalkOf}
-use Rattle.cl_analyse.specs.declared.findings.ChainAnswer.{ChainAnswer}
-use Rattle.cl_analyse.specs.declared.findings.ChainAnswer.TheVariants.{Bounds, Late}
-use Rattle.cl_analyse.specs.Verdicts.{limited_bound, verdict_at}
-use Rattle.cl_tight.specs.TightTimings.{tight_timing}
-use Rattle.cl_tight.specs.TightFindings.{tight_chain_answer_of, tight_findings_of}
+use Rattle.cl_phase.specs.{declared.whole.WholeWalk.WholeWalk, Whole.IsWholeWalkOf}
+use Rattle.cl_analyse.specs.{declared.findings.ChainAnswer.{ChainAnswer, TheVariants.{Bounds, Late}}, Verdicts.{limited_bound, verdict_at}}
+use Rattle.cl_tight.specs.{TightTimings.tight_timing, TightFindings.{tight_chain_answer_of, tight_findings_of}}
 use Rattle.cl_near.specs.Plans.{IsWindowOfRun}
 use Rattle.cl_report.specs.Report.{chain_line}
-use Rattle.cl_verify.specs.declared.decision.TaskDecision.{TaskDecision}
-use Rattle.cl_verify.specs.declared.decision.Decision.{Decision}
-use Rattle.cl_verify.specs.Decisions.{IsDecisionOnTask, IsDecisionOn}
-use Rattle.cl_verify.specs.VerifyText.{seen_words, task_decision_line, decision_line}
-use Rattle.cl_why.specs.Shares.{window_lines}
-use Rattle.cl_why.specs.Hops.{group_lines}
-use Rattle.cl_why.specs.Walks.{walk_lines}
+use Rattle.cl_verify.specs.{declared.decision.{TaskDecision.TaskDecision, Decision.Decision}, Decisions.{IsDecisionOnTask, IsDecisionOn}, VerifyText.{seen_words, task_decision_line, decision_line}}
+use Rattle.cl_why.specs.{Shares.window_lines, Hops.group_lines, Walks.walk_lines}
 
 -- a text goes on with lines of which this holds
 pub record Appends (each : List ℕ → Type 0) (old new : List ℕ) : Type 0 where

@@ -3,11 +3,7 @@ use Rattle.std.specs.Prelude.{ℕ, ◌-◌, ℤ, pos, ◌+ℤ◌, List, ◌++◌
 use Rattle.std.specs.Fmt.{signed_decimal}
 use Rattle.std.specs.List.{flat_map, range_with_len}
 use Rattle.cl_text.specs.Line.{line}
-use Rattle.cl_model.specs.declared.chain.RequirementKind.{RequirementKind}
-use Rattle.cl_model.specs.declared.chain.RequirementKind.TheVariants.{Length, Delay}
-use Rattle.cl_model.specs.declared.model.SystemModel.{SystemModel}
-use Rattle.cl_model.specs.ByNumber.{chain_at}
-use Rattle.cl_model.specs.Groups.{groups_at}
+use Rattle.cl_model.specs.{declared.{chain.RequirementKind.{RequirementKind, TheVariants.{Length, Delay}}, model.SystemModel.SystemModel}, ByNumber.chain_at, Groups.groups_at}
 use Rattle.cl_phase.specs.declared.whole.WholeWalk.{WholeWalk}
 use Rattle.cl_explain.specs.Explanation.{arrival_words}
 use Rattle.cl_why.specs.Hops.{timing_at_place, missed_at, taken_at}

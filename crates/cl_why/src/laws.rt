@@ -1,6 +1,5 @@
 //! What the reasons on a valid model promise.
-ghost use Rattle.cl_model.specs.declared.model.SystemModel.{SystemModel};
-ghost use Rattle.cl_model.specs.Validity.{IsValid};
+ghost use Rattle.cl_model.specs.{declared.model.SystemModel.SystemModel, Validity.IsValid};
 ghost use Rattle.cl_why.specs.Promises.{AddUpInWindows, LastAsBounds};
 
 /// The shares of the worst window of a task of a valid model add up to the window, which ends its

@@ -1,8 +1,7 @@
 //! What the ticks of the worst window of a task go to. Times are in ticks.
 ghost use Rattle.std.specs.Prelude.{◌≡◌, ◌<◌, ◌++◌, length, OnOk, codes};
 ghost use Rattle.cl_model.specs.ByNumber.{task_at};
-ghost use Rattle.cl_why.specs.Shares.{over_words, window_line, block_share, own_share, free_words, jobs_share, above_share, above_shares, window_lines};
-ghost use Rattle.cl_why.specs.Inner.{window_until, jobs_line, IsWindowOf};
+ghost use Rattle.cl_why.specs.{Shares.{over_words, window_line, block_share, own_share, free_words, jobs_share, above_share, above_shares, window_lines}, Inner.{window_until, jobs_line, IsWindowOf}};
 
 use crate::window::Window;
 use cl_explain::{is_above, put_blocker, put_signed, put_wide};

@@ -4,8 +4,7 @@ ghost use Rattle.std.specs.Prelude.{◌≡◌, ◌<◌, ◌++◌, length, map, O
 ghost use Rattle.cl_model.specs.Groups.{groups_at};
 ghost use Rattle.cl_runs.specs.SystemOf.{system_of};
 ghost use Rattle.cl_tight.specs.TightTimings.{tight_timing};
-ghost use Rattle.cl_why.specs.Walks.{first_missed, walk_from, walk_to, job_line, missed_lines, taken_lines, length_line, walk_lines};
-ghost use Rattle.cl_why.specs.Inner.{HasJobsOf};
+ghost use Rattle.cl_why.specs.{Walks.{first_missed, walk_from, walk_to, job_line, missed_lines, taken_lines, length_line, walk_lines}, Inner.HasJobsOf};
 
 use cl_bound::GroupTiming;
 use cl_explain::{put_arrival_words, put_signed};

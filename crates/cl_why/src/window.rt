@@ -1,13 +1,11 @@
 //! The worst window of a task, and how many jobs are released in it. Times are in ticks, and moments
 //! may lie before 0.
 ghost use Rattle.std.specs.Prelude.{◌≡◌, ◌*◌, ◌^◌, ◌<◌, ◌≤◌, ◌-ℤ◌, length, IfOk};
-ghost use Rattle.cl_model.specs.declared.limits.TheConstants.{MOST_TICKS, MOST_RUNNABLES};
-ghost use Rattle.cl_model.specs.Validity.{IsValid};
+ghost use Rattle.cl_model.specs.{declared.limits.TheConstants.{MOST_TICKS, MOST_RUNNABLES}, Validity.IsValid};
 ghost use Rattle.cl_runs.specs.SystemOf.{system_of};
 ghost use Rattle.cl_phase.specs.TightBounds.{ticks_or_none};
 ghost use Rattle.cl_tight.specs.TightAnswers.{tight_answers_of};
-ghost use Rattle.cl_why.specs.Windows.{reach_of, jobs_in_window, time_in_window, sum_of_shares, time_past_window};
-ghost use Rattle.cl_why.specs.Inner.{IsWindowOf};
+ghost use Rattle.cl_why.specs.{Windows.{reach_of, jobs_in_window, time_in_window, sum_of_shares, time_past_window}, Inner.IsWindowOf};
 
 use cl_bound::TaskAnswer;
 use cl_cycle::{Cycle, arrivals_from, arrivals_of};

@@ -4,17 +4,10 @@ use Rattle.std.specs.Prelude.{IfSome, max, ◌==◌}
 use Rattle.std.specs.List.{AllByRecursion}
 use Rattle.std.specs.Ordering.{nat_cmp, match_ordering}
 use Rattle.std.specs.Cmp.Lexicographic.{slice_cmp}
-use Rattle.toml.specs.Data.{Data, string, table, Members, no_members, member, depth, items_depth, members_depth}
-use Rattle.toml.specs.View.{items_of}
-use Rattle.cl_model.specs.declared.chain.ChainDef.{ChainDef}
-use Rattle.cl_model.specs.declared.task.RunnableDef.{RunnableDef}
-use Rattle.cl_model.specs.declared.task.TaskDef.{TaskDef}
-use Rattle.cl_model.specs.Place.{key_text}
-use Rattle.cl_model.specs.declared.model.SystemModel.{SystemModel}
-use Rattle.cl_model.specs.declared.stimulus.StimulusKind.{StimulusKind}
-use Rattle.cl_model.specs.declared.stimulus.StimulusKind.TheVariants.{Periodic, Sporadic, Burst}
-use Rattle.cl_write.specs.Entries.{Entry, with_member, with_entry, with_entries, members_with, number, number_data_if, unless_empty, unless_zero, when_true, names_data, tables}
-use Rattle.cl_write.specs.Writing.{core_table_entries, label_entries, kind_entries, stimulus_entries, runnable_entries, task_entries, chain_entries, requirement_entries, model_entries, document}
+use Rattle.toml.specs.{Data.{Data, string, table, Members, no_members, member, depth, items_depth, members_depth}, View.items_of}
+use Rattle.cl_model.specs.{declared.{chain.ChainDef.ChainDef, task.{RunnableDef.RunnableDef, TaskDef.TaskDef}, model.SystemModel.SystemModel, stimulus.StimulusKind.{StimulusKind, TheVariants.{Periodic, Sporadic, Burst}}}, Place.key_text}
+use Rattle.cl_write.specs.{Entries.{Entry, with_member, with_entry, with_entries, members_with, number, number_data_if, unless_empty, unless_zero, when_true, names_data, tables}, Writing.{core_table_entries, label_entries, kind_entries, stimulus_entries, runnable_entries, task_entries}}
+use Rattle.cl_write.specs.Writing.{chain_entries, requirement_entries, model_entries, document}
 
 parts : (a b n : ℕ) → max a b ≤ n → (a ≤ n) × (b ≤ n)
 parts a b n h = (omega (arith, h), omega (arith, h))

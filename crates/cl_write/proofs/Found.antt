@@ -9,9 +9,7 @@ use Rattle.std.specs.Cmp.{tied_itself}
 use Rattle.std.proofs.lemmas.Map.Text.{is_eq-slice_cmp}
 use Rattle.std.proofs.lemmas.Slice.Eq.{bytes_eq-Decides}
 use Rattle.toml.specs.Data.{Data, Members, no_members, member, get_member}
-use Rattle.cl_model.specs.declared.place.Key.{Key}
-use Rattle.cl_model.specs.Place.{key_text}
-use Rattle.cl_model.specs.Reading.Checks.{value_at, has_only}
+use Rattle.cl_model.specs.{declared.place.Key.Key, Place.key_text, Reading.Checks.{value_at, has_only}}
 use Rattle.cl_model.proofs.ListFacts.{both_pass}
 use Rattle.cl_write.specs.Entries.{Entry, with_member, with_entry, with_entries, members_with}
 

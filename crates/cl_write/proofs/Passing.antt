@@ -5,17 +5,9 @@ use Rattle.std.specs.List.{AllByRecursion}
 use Rattle.std.proofs.lemmas.Bool.Decides.{nat_tests}
 use Rattle.std.proofs.lemmas.List.{append-nil, length-map}
 use Rattle.std.proofs.lemmas.List.Elements.{recursion_from_All}
-use Rattle.toml.specs.Data.{Data, string}
-use Rattle.toml.specs.View.{items_of}
-use Rattle.cl_model.specs.declared.place.Key.{Key}
-use Rattle.cl_model.specs.declared.place.Place.{Place}
-use Rattle.cl_model.specs.declared.refusal.Code.TheVariants.{M4, M5}
-use Rattle.cl_model.specs.declared.refusal.Refusal.{Refusal}
-use Rattle.cl_model.specs.Name.{IsName}
-use Rattle.cl_model.specs.Place.{at_key}
-use Rattle.cl_model.specs.Refusals.{unless, in_order, each_from}
-use Rattle.cl_model.specs.Reading.Checks.{Check, a_name, a_number, a_boolean, an_array, found_or, members_of, fields_checks, field_checks, Field, keys_of, has_only}
-use Rattle.cl_model.specs.Reading.Meanings.{number_in, boolean_of, list_of}
+use Rattle.toml.specs.{Data.{Data, string}, View.items_of}
+use Rattle.cl_model.specs.{declared.{place.{Key.Key, Place.Place}, refusal.{Code.TheVariants.{M4, M5}, Refusal.Refusal}}, Name.IsName, Place.at_key, Refusals.{unless, in_order, each_from}, Reading.Checks.{Check, a_name, a_number, a_boolean, an_array, found_or, members_of, fields_checks}}
+use Rattle.cl_model.specs.Reading.{Checks.{field_checks, Field, keys_of, has_only}, Meanings.{number_in, boolean_of, list_of}}
 use Rattle.cl_model.proofs.NoRefusals.{AllNone, none_in_order}
 use Rattle.cl_write.specs.Entries.{Entry, number, number_data_if, unless_zero, when_true, unless_empty, members_with}
 use Rattle.cl_write.proofs.Found.{entry_at, are_apart, has_keys_among, found, only}

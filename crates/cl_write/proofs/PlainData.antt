@@ -8,16 +8,13 @@ use Rattle.std.proofs.lemmas.List.{append_assoc}
 use Rattle.std.proofs.lemmas.Fmt.{IsAscii-decimal}
 use Rattle.std.proofs.lemmas.Str.{IsAscii-append}
 use Rattle.std.proofs.lemmas.Str.Ascii.{IsAscii-nil}
-use Rattle.toml_parser.specs.Lexical.{line_feed, dot}
-use Rattle.toml_parser.specs.Strings.{Key}
+use Rattle.toml_parser.specs.{Lexical.{line_feed, dot}, Strings.Key}
 use Rattle.toml_writer.specs.Text.{string_text, key_text, path_text, dotted_text}
-use Rattle.toml.specs.Data.{Data, string, integer, float, boolean, datetime, array, table, Items, no_items, item, Members, no_members, member, is_before, has_valid_dates, items_have_valid_dates, members_have_valid_dates, is_sorted, items_are_sorted, members_are_sorted}
-use Rattle.toml.specs.Tables.{Definition, key_value, std_table, array_table, Expression}
-use Rattle.toml.specs.Text.{IsValueText, IsItemsText, IsMembersText, breaks_lines, before_item, after_item, array_end, before_member, table_end, is_section, are_tables, needs_header, pairs, header_of}
-use Rattle.toml.specs.Text.{sections, section, elements, expressions, gap, header_open, header_close, IsLineText, IsLinesText, IsDocumentText}
+use Rattle.toml.specs.{Data.{Data, string, integer, float, boolean, datetime, array, table, Items, no_items, item, Members, no_members, member, is_before, has_valid_dates, items_have_valid_dates, members_have_valid_dates, is_sorted, items_are_sorted, members_are_sorted}, Tables.Definition}
+use Rattle.toml.specs.{Tables.{key_value, std_table, array_table, Expression}, Text.{IsValueText, IsItemsText, IsMembersText, breaks_lines, before_item, after_item, array_end, before_member, table_end, is_section, are_tables, needs_header, pairs, header_of, sections, section, elements}}
+use Rattle.toml.specs.Text.{expressions, gap, header_open, header_close, IsLineText, IsLinesText, IsDocumentText}
 use Rattle.toml.proofs.Lines.{path_text-last}
-use Rattle.cl_model.specs.declared.limits.TheConstants.{MOST_REQUIRED}
-use Rattle.cl_model.specs.Name.{IsName}
+use Rattle.cl_model.specs.{declared.limits.TheConstants.MOST_REQUIRED, Name.IsName}
 use Rattle.cl_model.proofs.ListFacts.{both_true}
 use Rattle.cl_write.proofs.NameTexts.{name_is_ascii}
 

@@ -9,31 +9,14 @@ use Rattle.std.specs.Cmp.Lexicographic.{slice_cmp}
 use Rattle.std.specs.Str.{IsAscii}
 use Rattle.std.proofs.lemmas.Cmp.{nat_list_cmp_total}
 use Rattle.std.proofs.lemmas.List.Elements.{recursion_from_All}
-use Rattle.toml.specs.Data.{Data, string, table, Members, no_members, member, is_before}
-use Rattle.toml.specs.View.{items_of}
+use Rattle.toml.specs.{Data.{Data, string, table, Members, no_members, member, is_before}, View.items_of}
 use Rattle.toml_writer.specs.Text as written
-use Rattle.cl_model.specs.declared.limits.TheConstants.{MOST_REQUIRED}
-use Rattle.cl_model.specs.declared.chain.ChainDef.{ChainDef}
-use Rattle.cl_model.specs.declared.chain.LengthKind.TheVariants.{Reaction, Age, Reduced}
-use Rattle.cl_model.specs.declared.chain.RequirementDef.{RequirementDef}
-use Rattle.cl_model.specs.declared.chain.RequirementKind.{RequirementKind}
-use Rattle.cl_model.specs.declared.chain.RequirementKind.TheVariants.{Length, Delay}
-use Rattle.cl_model.specs.declared.model.SystemModel.{SystemModel}
-use Rattle.cl_model.specs.declared.place.Key.{Key}
+use Rattle.cl_model.specs.declared.{limits.TheConstants.MOST_REQUIRED, chain.{ChainDef.ChainDef, LengthKind.TheVariants.{Reaction, Age, Reduced}, RequirementDef.RequirementDef, RequirementKind.{RequirementKind, TheVariants.{Length, Delay}}}, model.SystemModel.SystemModel, place.Key.Key}
+use Rattle.cl_model.specs.{declared.{stimulus.StimulusKind.{StimulusKind, TheVariants.{Periodic, Sporadic, Burst}}, task.{AccessKind.{AccessKind, TheVariants.{Explicit, Implicit, Timed}}, RunnableDef.RunnableDef, TaskDef.TaskDef}}, AreNamed.{IsRunnableNamed, IsTaskNamed, IsChainNamed}}
+use Rattle.cl_model.specs.{AreNamed.{IsRequirementNamed, AreNamed}, Name.IsName, Place.key_text, Ranges.{IsTime, IsKindInRange, IsRunnableInRange, IsTaskInRange, IsInRange}, Kinds.{access_word, requirement_word}}
 use Rattle.cl_model.specs.declared.place.Key.TheVariants as key
-use Rattle.cl_model.specs.declared.stimulus.StimulusKind.{StimulusKind}
-use Rattle.cl_model.specs.declared.stimulus.StimulusKind.TheVariants.{Periodic, Sporadic, Burst}
-use Rattle.cl_model.specs.declared.task.AccessKind.{AccessKind}
-use Rattle.cl_model.specs.declared.task.AccessKind.TheVariants.{Explicit, Implicit, Timed}
-use Rattle.cl_model.specs.declared.task.RunnableDef.{RunnableDef}
-use Rattle.cl_model.specs.declared.task.TaskDef.{TaskDef}
-use Rattle.cl_model.specs.AreNamed.{IsRunnableNamed, IsTaskNamed, IsChainNamed, IsRequirementNamed, AreNamed}
-use Rattle.cl_model.specs.Name.{IsName}
-use Rattle.cl_model.specs.Place.{key_text}
-use Rattle.cl_model.specs.Ranges.{IsTime, IsKindInRange, IsRunnableInRange, IsTaskInRange, IsInRange}
-use Rattle.cl_model.specs.Kinds.{access_word, requirement_word}
-use Rattle.cl_write.specs.Entries.{Entry, with_member, with_entry, with_entries, members_with, number, number_data_if, unless_zero, when_true, unless_empty, names_data, tables}
-use Rattle.cl_write.specs.Writing.{has_delay, version_for, core_table_entries, label_entries, kind_entries, stimulus_entries, runnable_entries, task_entries, chain_entries, requirement_entries, model_entries, document}
+use Rattle.cl_write.specs.{Entries.{Entry, with_member, with_entry, with_entries, members_with, number, number_data_if, unless_zero, when_true, unless_empty, names_data, tables}, Writing.{has_delay, version_for, core_table_entries, label_entries, kind_entries, stimulus_entries}}
+use Rattle.cl_write.specs.Writing.{runnable_entries, task_entries, chain_entries, requirement_entries, model_entries, document}
 use Rattle.cl_write.proofs.PlainData.{IsPlain, ArePlainItems, ArePlain}
 
 -- ---- keys are ASCII

@@ -6,19 +6,12 @@ use Rattle.std.proofs.lemmas.List.{append_assoc, append-nil}
 use Rattle.toml_parser.specs.Lexical.{line_feed, quote}
 use Rattle.toml_parser.specs.Strings as toml
 use Rattle.toml_writer.specs.Text as written
-use Rattle.toml.specs.Data.{Data, string, boolean, array, table, Items, no_items, item, Members, member}
-use Rattle.toml.specs.Tables.{key_value, Expression}
-use Rattle.toml.specs.Text.{IsValueText, IsItemsText, breaks_lines, is_section, are_tables, pairs, sections, section, elements, gap, header_open, header_close, IsLinesText}
+use Rattle.toml.specs.{Data.{Data, string, boolean, array, table, Items, no_items, item, Members, member}, Tables.{key_value, Expression}, Text.{IsValueText, IsItemsText, breaks_lines, is_section, are_tables, pairs, sections, section, elements, gap, header_open, header_close, IsLinesText}}
 use Rattle.toml.specs.View.{items_of}
-use Rattle.cl_model.specs.declared.limits.TheConstants.{MOST_REQUIRED}
-use Rattle.cl_model.specs.declared.place.Key.{Key}
+use Rattle.cl_model.specs.{declared.{limits.TheConstants.MOST_REQUIRED, place.Key.Key}, Name.IsName, Place.key_text}
 use Rattle.cl_model.specs.declared.place.Key.TheVariants as key
-use Rattle.cl_model.specs.Name.{IsName}
-use Rattle.cl_model.specs.Place.{key_text}
-use Rattle.cl_write.specs.Entries.{Entry, members_with, number, number_data_if, unless_zero, when_true, names_data, tables}
-use Rattle.cl_write.specs.Inner.Lines.{word_line, number_line, number_line_if, line_unless_zero, true_line, line_when_true, next_word, more_words, words_line, words_line_if}
-use Rattle.cl_write.proofs.NameTexts.{quoted_name}
-use Rattle.cl_write.proofs.Sorted.{at_front, spread, place_all, all_fit, in_order}
+use Rattle.cl_write.specs.{Entries.{Entry, members_with, number, number_data_if, unless_zero, when_true, names_data, tables}, Inner.Lines.{word_line, number_line, number_line_if, line_unless_zero, true_line, line_when_true, next_word, more_words, words_line, words_line_if}}
+use Rattle.cl_write.proofs.{NameTexts.quoted_name, Sorted.{at_front, spread, place_all, all_fit, in_order}}
 
 -- ---- lines
 

@@ -4,31 +4,16 @@ use Rattle.std.specs.List.{AllByRecursion, concat}
 use Rattle.std.proofs.lemmas.List.{append-nil}
 use Rattle.std.proofs.lemmas.List.Elements.{recursion_from_All}
 use Rattle.toml_writer.specs.Text as written
-use Rattle.toml.specs.Tables.{key_value, std_table, array_table, Expression}
-use Rattle.toml.specs.Text.{pairs, sections, expressions, IsLinesText, IsDocumentText}
-use Rattle.cl_model.specs.declared.limits.TheConstants.{MOST_REQUIRED}
-use Rattle.cl_model.specs.declared.chain.ChainDef.{ChainDef}
-use Rattle.cl_model.specs.declared.chain.RequirementDef.{RequirementDef}
-use Rattle.cl_model.specs.declared.model.CoreDef.{CoreDef}
-use Rattle.cl_model.specs.declared.model.LabelDef.{LabelDef}
-use Rattle.cl_model.specs.declared.model.SystemModel.{SystemModel}
+use Rattle.toml.specs.{Tables.{key_value, std_table, array_table, Expression}, Text.{pairs, sections, expressions, IsLinesText, IsDocumentText}}
+use Rattle.cl_model.specs.declared.{limits.TheConstants.MOST_REQUIRED, chain.{ChainDef.ChainDef, RequirementDef.RequirementDef}, model.{CoreDef.CoreDef, LabelDef.LabelDef, SystemModel.SystemModel}, stimulus.StimulusKind.{StimulusKind, TheVariants.{Periodic, Sporadic, Burst}}}
+use Rattle.cl_model.specs.{declared.task.{RunnableDef.RunnableDef, TaskDef.TaskDef}, AreNamed.{IsRunnableNamed, IsTaskNamed, IsChainNamed, IsRequirementNamed, AreNamed}, Kinds.{access_word, requirement_word}, Name.IsName, Place.key_text, Ranges.{IsKindInRange, IsRunnableInRange}}
+use Rattle.cl_model.specs.Ranges.{IsTaskInRange, IsInRange}
 use Rattle.cl_model.specs.declared.place.Key.TheVariants as key
-use Rattle.cl_model.specs.declared.stimulus.StimulusKind.{StimulusKind}
-use Rattle.cl_model.specs.declared.stimulus.StimulusKind.TheVariants.{Periodic, Sporadic, Burst}
-use Rattle.cl_model.specs.declared.task.RunnableDef.{RunnableDef}
-use Rattle.cl_model.specs.declared.task.TaskDef.{TaskDef}
-use Rattle.cl_model.specs.AreNamed.{IsRunnableNamed, IsTaskNamed, IsChainNamed, IsRequirementNamed, AreNamed}
-use Rattle.cl_model.specs.Kinds.{access_word, requirement_word}
-use Rattle.cl_model.specs.Name.{IsName}
-use Rattle.cl_model.specs.Place.{key_text}
-use Rattle.cl_model.specs.Ranges.{IsKindInRange, IsRunnableInRange, IsTaskInRange, IsInRange}
-use Rattle.cl_write.specs.Entries.{members_with}
-use Rattle.cl_write.specs.Inner.Lines.{word_line, number_line, number_line_if, line_unless_zero, line_when_true, words_line_if}
-use Rattle.cl_write.specs.Inner.Printed.{core_lines, lines_of_label, lines_of_kind, lines_of_runnable, lines_of_task, lines_of_chain, lines_of_requirement, core_text, label_text, stimulus_text, runnable_text, task_text, chain_text, requirement_text, lines_of_model, model_sections, model_text}
-use Rattle.cl_write.specs.Writing.{version_for, core_table_entries, label_entries, stimulus_entries, runnable_entries, task_entries, chain_entries, requirement_entries, model_entries, document}
-use Rattle.cl_write.proofs.PlainModel.{access_plain, requirement_word_plain, deadline_plain, version_is_small}
-use Rattle.cl_write.proofs.PrintedLines.{AreLines, IsBody, table_lines, flat_table_lines, word_printed, number_printed, number_if_printed, unless_zero_printed, when_true_printed, names_printed, tables_printed, no_pair}
-use Rattle.cl_write.proofs.Sorted.{in_order}
+use Rattle.cl_write.specs.{Entries.members_with, Inner.{Lines.{word_line, number_line, number_line_if, line_unless_zero, line_when_true, words_line_if}, Printed.{core_lines, lines_of_label, lines_of_kind, lines_of_runnable, lines_of_task, lines_of_chain, lines_of_requirement, core_text}}}
+use Rattle.cl_write.specs.{Inner.Printed.{label_text, stimulus_text, runnable_text, task_text, chain_text, requirement_text, lines_of_model, model_sections, model_text}, Writing.{version_for, core_table_entries, label_entries, stimulus_entries, runnable_entries, task_entries}}
+use Rattle.cl_write.specs.Writing.{chain_entries, requirement_entries, model_entries, document}
+use Rattle.cl_write.proofs.{PlainModel.{access_plain, requirement_word_plain, deadline_plain, version_is_small}, PrintedLines.{AreLines, IsBody, table_lines, flat_table_lines, word_printed, number_printed, number_if_printed, unless_zero_printed, when_true_printed, names_printed}}
+use Rattle.cl_write.proofs.{PrintedLines.{tables_printed, no_pair}, Sorted.in_order}
 
 -- the same of all items, the way that the lemmas on lines take it
 each : {X : Type 0} (P : X → Type 0) (xs : List X) → All P xs → AllByRecursion P xs

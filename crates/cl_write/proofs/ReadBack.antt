@@ -2,31 +2,16 @@
 use Rattle.std.proofs.Common.{◌≡◌, ℕ, ◌<◌, ◌≤◌, Bool, true, false, cond, leb, List, [], length, get_or, map, All, Some, Ok, refl, ap, ◌∙◌}
 use Rattle.std.proofs.lemmas.List.Folds.{list_any_at}
 use Rattle.toml.specs.Data.{table, Members}
-use Rattle.cl_model.specs.declared.limits.TheConstants.{MOST_CORES, MOST_STIMULI, MOST_LABELS, MOST_TASKS, MOST_CHAINS, MOST_REQUIREMENTS}
-use Rattle.cl_model.specs.declared.chain.RequirementDef.{RequirementDef}
-use Rattle.cl_model.specs.declared.model.SystemModel.{SystemModel}
-use Rattle.cl_model.specs.declared.place.Key.{Key}
+use Rattle.cl_model.specs.declared.{limits.TheConstants.{MOST_CORES, MOST_STIMULI, MOST_LABELS, MOST_TASKS, MOST_CHAINS, MOST_REQUIREMENTS}, chain.RequirementDef.RequirementDef, model.SystemModel.SystemModel, place.{Key.Key, Part.Part, Place.Place}, refusal.Refusal.Refusal}
+use Rattle.cl_model.specs.{AreNamed.AreNamed, Kinds.is_delay, Place.{section_place, at_item}, Ranges.IsInRange, Reading.{sections, section_checks, top_keys, is_version, model_checks, model_meaning, model_in, document_of, model_of, version_of, Checks.{an_array, a_table, found_or}}}
+use Rattle.cl_model.specs.Reading.{Checks.{value_at, fields_checks}, Meanings.{list_of, table_of, number_in}, Tables.{core_meaning, stimulus_meaning, label_meaning, task_meaning, chain_meaning, requirement_meaning, core_fields, stimulus_entry_checks, label_fields, task_fields}}
+use Rattle.cl_model.specs.{Reading.Tables.{chain_fields, requirement_fields}, Refusals.answer}
 use Rattle.cl_model.specs.declared.place.Key.TheVariants as key
-use Rattle.cl_model.specs.declared.place.Part.{Part}
 use Rattle.cl_model.specs.declared.place.Part.TheVariants as part
-use Rattle.cl_model.specs.declared.place.Place.{Place}
-use Rattle.cl_model.specs.declared.refusal.Refusal.{Refusal}
-use Rattle.cl_model.specs.AreNamed.{AreNamed}
-use Rattle.cl_model.specs.Kinds.{is_delay}
-use Rattle.cl_model.specs.Place.{section_place, at_item}
-use Rattle.cl_model.specs.Ranges.{IsInRange}
-use Rattle.cl_model.specs.Reading.{sections, section_checks, top_keys, is_version, model_checks, model_meaning, model_in, document_of, model_of, version_of}
-use Rattle.cl_model.specs.Reading.Checks.{an_array, a_table, found_or, value_at}
-use Rattle.cl_model.specs.Reading.Meanings.{list_of, table_of, number_in}
-use Rattle.cl_model.specs.Reading.Tables.{core_meaning, stimulus_meaning, label_meaning, task_meaning, chain_meaning, requirement_meaning, core_fields, stimulus_entry_checks, label_fields, task_fields, chain_fields, requirement_fields}
-use Rattle.cl_model.specs.Reading.Checks.{fields_checks}
-use Rattle.cl_model.specs.Refusals.{answer}
 use Rattle.cl_model.proofs.NoRefusals.{AllNone, none_in_order}
-use Rattle.cl_write.specs.Entries.{Entry, number, tables, members_with}
-use Rattle.cl_write.specs.Writing.{has_delay, version_for, core_table_entries, label_entries, stimulus_entries, task_entries, chain_entries, requirement_entries, model_entries, document}
-use Rattle.cl_write.proofs.Found.{entry_at, found, only}
-use Rattle.cl_write.proofs.Passing.{unless_empty_passes, unless_empty_means}
-use Rattle.cl_write.proofs.ReadTables.{core_passes, core_means, label_passes, label_means, stimulus_passes, stimulus_means, task_passes, task_means, chain_passes, chain_means, Says, requirement_passes, requirement_means}
+use Rattle.cl_write.specs.{Entries.{Entry, number, tables, members_with}, Writing.{has_delay, version_for, core_table_entries, label_entries, stimulus_entries, task_entries, chain_entries, requirement_entries, model_entries, document}}
+use Rattle.cl_write.proofs.{Found.{entry_at, found, only}, Passing.{unless_empty_passes, unless_empty_means}, ReadTables.{core_passes, core_means, label_passes, label_means, stimulus_passes, stimulus_means, task_passes, task_means, chain_passes, chain_means, Says, requirement_passes}}
+use Rattle.cl_write.proofs.ReadTables.{requirement_means}
 
 -- what stands at a key of the document
 at : (model : SystemModel) (k : Key) → value_at k (members_with (model_entries model)) ≡ entry_at k (model_entries model)

@@ -3,40 +3,18 @@ use Rattle.std.proofs.Common.{◌≡◌, ℕ, ◌≤◌, true, leb, List, [], �
 use Rattle.std.specs.Prelude.{unwrap_or}
 use Rattle.std.specs.List.{AllByRecursion}
 use Rattle.toml.specs.Data.{string, table}
-use Rattle.cl_model.specs.declared.limits.TheConstants.{MOST_TICKS, MOST_REQUIRED, MOST_PRIORITY, MOST_RUNNABLES, MOST_ACCESSES, MOST_STEPS, MOST_HOPS, LEAST_JOBS_OF_BURST, MOST_JOBS_OF_BURST}
-use Rattle.cl_model.specs.declared.chain.ChainDef.{ChainDef}
-use Rattle.cl_model.specs.declared.chain.LengthKind.TheVariants.{Reaction, Age, Reduced}
-use Rattle.cl_model.specs.declared.chain.RequirementDef.{RequirementDef}
-use Rattle.cl_model.specs.declared.chain.RequirementKind.{RequirementKind}
-use Rattle.cl_model.specs.declared.chain.RequirementKind.TheVariants.{Length, Delay}
-use Rattle.cl_model.specs.declared.model.CoreDef.{CoreDef}
-use Rattle.cl_model.specs.declared.model.LabelDef.{LabelDef}
-use Rattle.cl_model.specs.declared.place.Key.{Key}
+use Rattle.cl_model.specs.declared.{limits.TheConstants.{MOST_TICKS, MOST_REQUIRED, MOST_PRIORITY, MOST_RUNNABLES, MOST_ACCESSES, MOST_STEPS, MOST_HOPS, LEAST_JOBS_OF_BURST, MOST_JOBS_OF_BURST}, chain.{ChainDef.ChainDef, LengthKind.TheVariants.{Reaction, Age, Reduced}}}
+use Rattle.cl_model.specs.declared.{chain.{RequirementDef.RequirementDef, RequirementKind.{RequirementKind, TheVariants.{Length, Delay}}}, model.{CoreDef.CoreDef, LabelDef.LabelDef}, place.{Key.Key, Place.Place}, stimulus.{StimulusDef.StimulusDef, StimulusKind.StimulusKind}}
+use Rattle.cl_model.specs.{declared.{stimulus.StimulusKind.TheVariants.{Periodic, Sporadic, Burst}, task.{AccessKind.{AccessKind, TheVariants.{Explicit, Implicit, Timed}}, RunnableDef.RunnableDef, TaskDef.TaskDef}}, AreNamed.{IsRunnableNamed, IsTaskNamed, IsChainNamed, IsRequirementNamed}}
+use Rattle.cl_model.specs.{Name.IsName, Place.{at_key, at_sub, at_spot}, Ranges.{IsKindInRange, IsRunnableInRange, IsTaskInRange, IsChainInRange}, Reading.{Checks.{a_name, a_word, a_table_of, field_checks, fields_checks, keys_of, found_or, meaning_of, names, value_at}, Meanings.text_in}}
+use Rattle.cl_model.specs.Reading.{Meanings.{list_of, table_of, word_if}, Tables.{core_fields, core_meaning, label_fields, label_meaning, StimulusForm, periodic_form, sporadic_form, burst_form, stimulus_forms, stimulus_fields, form_checks, stimulus_entry_checks, stimulus_meaning}}
+use Rattle.cl_model.specs.{Reading.Tables.{runnable_fields, runnables, runnable_meaning, access_words, task_fields, task_meaning, chain_fields, chain_meaning, requirement_words, requirement_fields, requirement_meaning}, Kinds.{access_word, requirement_word, is_delay}}
 use Rattle.cl_model.specs.declared.place.Key.TheVariants as key
-use Rattle.cl_model.specs.declared.place.Place.{Place}
-use Rattle.cl_model.specs.declared.stimulus.StimulusDef.{StimulusDef}
-use Rattle.cl_model.specs.declared.stimulus.StimulusKind.{StimulusKind}
-use Rattle.cl_model.specs.declared.stimulus.StimulusKind.TheVariants.{Periodic, Sporadic, Burst}
-use Rattle.cl_model.specs.declared.task.AccessKind.{AccessKind}
-use Rattle.cl_model.specs.declared.task.AccessKind.TheVariants.{Explicit, Implicit, Timed}
-use Rattle.cl_model.specs.declared.task.RunnableDef.{RunnableDef}
-use Rattle.cl_model.specs.declared.task.TaskDef.{TaskDef}
-use Rattle.cl_model.specs.AreNamed.{IsRunnableNamed, IsTaskNamed, IsChainNamed, IsRequirementNamed}
-use Rattle.cl_model.specs.Name.{IsName}
-use Rattle.cl_model.specs.Place.{at_key, at_sub, at_spot}
-use Rattle.cl_model.specs.Ranges.{IsKindInRange, IsRunnableInRange, IsTaskInRange, IsChainInRange}
-use Rattle.cl_model.specs.Reading.Checks.{a_name, a_word, a_table_of, field_checks, fields_checks, keys_of, found_or, meaning_of, names, value_at}
-use Rattle.cl_model.specs.Reading.Meanings.{text_in, list_of, table_of, word_if}
-use Rattle.cl_model.specs.Reading.Tables.{core_fields, core_meaning, label_fields, label_meaning, StimulusForm, periodic_form, sporadic_form, burst_form, stimulus_forms, stimulus_fields, form_checks}
-use Rattle.cl_model.specs.Reading.Tables.{stimulus_entry_checks, stimulus_meaning, runnable_fields, runnables, runnable_meaning, access_words, task_fields, task_meaning, chain_fields, chain_meaning}
-use Rattle.cl_model.specs.Reading.Tables.{requirement_words, requirement_fields, requirement_meaning}
-use Rattle.cl_model.specs.Kinds.{access_word, requirement_word, is_delay}
 use Rattle.cl_model.proofs.NoRefusals.{none_in_order}
-use Rattle.cl_write.specs.Entries.{Entry, members_with}
+use Rattle.cl_write.specs.{Entries.{Entry, members_with}, Writing.{core_table_entries, label_entries, stimulus_entries, runnable_entries, task_entries, chain_entries, requirement_entries}}
 use Rattle.cl_write.specs.Entries as entries
-use Rattle.cl_write.specs.Writing.{core_table_entries, label_entries, stimulus_entries, runnable_entries, task_entries, chain_entries, requirement_entries}
-use Rattle.cl_write.proofs.Found.{entry_at, are_apart, has_keys_among, found}
-use Rattle.cl_write.proofs.Passing.{name_passes, number_passes, number_if_passes, number_if_means, unless_zero_passes, unless_zero_means, when_true_passes, when_true_means, unless_empty_passes, unless_empty_means, FieldPasses, fields_pass, checks_pass, table_passes}
+use Rattle.cl_write.proofs.{Found.{entry_at, are_apart, has_keys_among, found}, Passing.{name_passes, number_passes, number_if_passes, number_if_means, unless_zero_passes, unless_zero_means, when_true_passes, when_true_means, unless_empty_passes, unless_empty_means, FieldPasses}}
+use Rattle.cl_write.proofs.Passing.{fields_pass, checks_pass, table_passes}
 
 -- ---- cores and labels
 

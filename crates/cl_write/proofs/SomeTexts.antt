@@ -2,19 +2,10 @@
 use Rattle.std.proofs.Common.{◌≡◌, ℕ, false, List, Some, ◌∙◌}
 use Rattle.std.proofs.lemmas.Str.{IsUtf8-from_ascii}
 use Rattle.toml.proofs.ReadBack.{parse_document-printed}
-use Rattle.cl_model.specs.declared.model.SystemModel.{SystemModel}
-use Rattle.cl_model.specs.AreNamed.{AreNamed}
-use Rattle.cl_model.specs.Ranges.{IsInRange}
-use Rattle.cl_model.specs.Reading.{document_of}
+use Rattle.cl_model.specs.{declared.model.SystemModel.SystemModel, AreNamed.AreNamed, Ranges.IsInRange, Reading.document_of}
 use Rattle.cl_model.proofs.DocumentTexts.{document_of-text}
-use Rattle.cl_write.specs.Texts.{IsTextOf}
-use Rattle.cl_write.specs.Inner.Printed.{model_text}
-use Rattle.cl_write.specs.Writing.{document}
-use Rattle.cl_write.proofs.Depth.{document_is_shallow}
-use Rattle.cl_write.proofs.PlainData.{document_ascii, members_dates, members_sorted}
-use Rattle.cl_write.proofs.PlainModel.{document_is_plain}
-use Rattle.cl_write.proofs.PrintedModel.{is_document_text}
-use Rattle.cl_write.proofs.ReadBack.{reads_as_model, reads_as_version}
+use Rattle.cl_write.specs.{Texts.IsTextOf, Inner.Printed.model_text, Writing.document}
+use Rattle.cl_write.proofs.{Depth.document_is_shallow, PlainData.{document_ascii, members_dates, members_sorted}, PlainModel.document_is_plain, PrintedModel.is_document_text, ReadBack.{reads_as_model, reads_as_version}}
 
 -- a text of the document is a text of the model
 pub text_of_document : (text : List ℕ) (model : SystemModel) → IsInRange model → AreNamed model → document_of text ≡ Some (document model) → IsTextOf model text

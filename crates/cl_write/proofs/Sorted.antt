@@ -4,8 +4,7 @@ use Rattle.std.specs.List.{list_all}
 use Rattle.std.specs.Ordering.{is_lt, is_gt, match_ordering}
 use Rattle.std.specs.Cmp.Lexicographic.{slice_cmp}
 use Rattle.toml.specs.Data.{Data, Members, no_members, member}
-use Rattle.cl_model.specs.declared.place.Key.{Key}
-use Rattle.cl_model.specs.Place.{key_text}
+use Rattle.cl_model.specs.{declared.place.Key.Key, Place.key_text}
 use Rattle.cl_model.proofs.ListFacts.{both_pass}
 use Rattle.cl_write.specs.Entries.{Entry, with_member, with_entry, with_entries}
 

@@ -3,10 +3,8 @@
 use Rattle.std.specs.Prelude.{ℕ, pos, Bool, true, ◌==◌, if◌then◌else◌, List, [], ◌∷◌, map, Option, Some, None}
 use Rattle.std.specs.Ordering.{nat_cmp, match_ordering}
 use Rattle.std.specs.Cmp.Lexicographic.{slice_cmp}
-use Rattle.toml.specs.Data.{Data, string, integer, boolean, array, table, Members, no_members, member}
-use Rattle.toml.specs.View.{items_of}
-use Rattle.cl_model.specs.declared.place.Key.{Key}
-use Rattle.cl_model.specs.Place.{key_text}
+use Rattle.toml.specs.{Data.{Data, string, integer, boolean, array, table, Members, no_members, member}, View.items_of}
+use Rattle.cl_model.specs.{declared.place.Key.Key, Place.key_text}
 
 -- a key, and its value where one is written
 abbrev pub Entry : Type 0

@@ -1,7 +1,6 @@
 -- A text of a model.
 use Rattle.std.specs.Prelude.{◌≡◌, ℕ, List, Ok}
-use Rattle.cl_model.specs.declared.model.SystemModel.{SystemModel}
-use Rattle.cl_model.specs.Reading.{model_of, version_of}
+use Rattle.cl_model.specs.{declared.model.SystemModel.SystemModel, Reading.{model_of, version_of}}
 use Rattle.cl_write.specs.Writing.{version_for}
 
 -- a text of the least version from 2 on that can say the model, which is read as the model

@@ -1,8 +1,7 @@
 //! The lines of each kind of stimulus. Times are in ticks.
 ghost use Rattle.std.specs.Prelude.{◌≡◌, ◌++◌, OnOk};
 ghost use Rattle.std.specs.List.{concat};
-ghost use Rattle.cl_model.specs.declared.stimulus.StimulusKind.TheVariants.{Periodic, Sporadic, Burst};
-ghost use Rattle.cl_model.specs.Name.{IsName};
+ghost use Rattle.cl_model.specs.{declared.stimulus.StimulusKind.TheVariants.{Periodic, Sporadic, Burst}, Name.IsName};
 ghost use Rattle.cl_write.specs.Inner.Printed.{lines_of_kind};
 
 use crate::lines::{put_name, put_number, put_unless_zero, put_word};

@@ -1,8 +1,7 @@
 //! The entries of each section, one writer for each.
 ghost use Rattle.std.specs.Prelude.{◌≡◌, ◌++◌, OnOk};
 ghost use Rattle.std.specs.List.{concat};
-ghost use Rattle.cl_model.specs.AreNamed.{IsRunnableNamed, IsTaskNamed, IsChainNamed, IsRequirementNamed};
-ghost use Rattle.cl_model.specs.Name.{IsName};
+ghost use Rattle.cl_model.specs.{AreNamed.{IsRunnableNamed, IsTaskNamed, IsChainNamed, IsRequirementNamed}, Name.IsName};
 ghost use Rattle.cl_write.specs.Inner.Printed.{core_text, label_text, stimulus_text, runnable_text, lines_of_runnable, task_text, lines_of_task, chain_text, requirement_text, lines_of_requirement};
 
 use crate::entries::{Written, put_all};

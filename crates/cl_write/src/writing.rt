@@ -2,11 +2,8 @@
 ghost use Rattle.std.specs.Prelude.{◌≡◌, ◌++◌, false, Some, Ok, IfOk, OnOk};
 ghost use Rattle.std.specs.List.{concat};
 ghost use Rattle.toml.specs.Text.{IsDocumentText};
-ghost use Rattle.cl_model.specs.AreNamed.{AreNamed};
-ghost use Rattle.cl_model.specs.Ranges.{IsInRange};
-ghost use Rattle.cl_model.specs.Reading.{document_of, model_of, version_of};
-ghost use Rattle.cl_write.specs.Writing.{has_delay, version_for, document};
-ghost use Rattle.cl_write.specs.Inner.Printed.{lines_of_model, model_sections, model_text};
+ghost use Rattle.cl_model.specs.{AreNamed.AreNamed, Ranges.IsInRange, Reading.{document_of, model_of, version_of}};
+ghost use Rattle.cl_write.specs.{Writing.{has_delay, version_for, document}, Inner.Printed.{lines_of_model, model_sections, model_text}};
 
 use crate::entries::put_all;
 use crate::lines::{put_number, put_word};

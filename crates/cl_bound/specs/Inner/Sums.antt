@@ -1,9 +1,6 @@
 -- The sums of hops that the code keeps, one group after the other.
 use Rattle.std.specs.Prelude.{◌≡◌, ◌^◌, ℤ, pos, ◌+ℤ◌, ◌-ℤ◌, ◌≤ℤ◌, ◌<ℤ◌, List}
-use Rattle.cl_bound.specs.declared.group_timing.GroupTiming.{GroupTiming}
-use Rattle.cl_bound.specs.declared.sums.Sums.{Sums}
-use Rattle.cl_bound.specs.Hops.{forward_hop, backward_hop, hops}
-use Rattle.cl_bound.specs.Bounds.{last_of, Lengths}
+use Rattle.cl_bound.specs.{declared.{group_timing.GroupTiming.GroupTiming, sums.Sums.Sums}, Hops.{forward_hop, backward_hop, hops}, Bounds.{last_of, Lengths}}
 
 -- a bound: 1 tick or more, and within 64 bits
 abbrev pub IsBound : ℤ → Type 0

@@ -1,12 +1,8 @@
 //! The bound on the delay of a settled chain beside the bound on its reaction.
 ghost use Rattle.std.specs.Prelude.{◌≡◌, ◌+◌, ◌<◌, ◌≤◌, List, length};
-ghost use Rattle.cl_model.specs.declared.group.Group.{Group};
-ghost use Rattle.cl_model.specs.declared.task.AccessKind.TheVariants.{Timed};
-ghost use Rattle.cl_model.specs.Timing.{greatest_distance};
-ghost use Rattle.cl_runs.specs.TaskTiming.{System, timing_at, IsSound};
-ghost use Rattle.cl_runs.specs.Chains.{first_group};
-ghost use Rattle.cl_bound.specs.Bounds.{bounds_of};
-ghost use Rattle.cl_bound.specs.SettledChains.{IsSettledChain};
+ghost use Rattle.cl_model.specs.{declared.{group.Group.Group, task.AccessKind.TheVariants.Timed}, Timing.greatest_distance};
+ghost use Rattle.cl_runs.specs.{TaskTiming.{System, timing_at, IsSound}, Chains.first_group};
+ghost use Rattle.cl_bound.specs.{Bounds.bounds_of, SettledChains.IsSettledChain};
 
 /// The bound on the delay of a settled chain is at most the bound on its reaction. Where the first
 /// task is timed, the reaction's is as much greater as its arrivals are apart at most.

@@ -2,17 +2,8 @@
 //! group before it.
 ghost use Rattle.std.specs.Prelude.{ℕ, pos, ◌+ℤ◌, ◌≤ℤ◌, ◌+◌, ◌-◌, ◌≤◌, [], ◌∷◌};
 ghost use Rattle.cl_model.specs.declared.group.Group.{Group};
-ghost use Rattle.cl_runs.specs.TaskTiming.{System, IsSound};
-ghost use Rattle.cl_runs.specs.Table.{job_at};
-ghost use Rattle.cl_runs.specs.Run.{Run, jobs_of};
-ghost use Rattle.cl_runs.specs.Legal.{IsLegal};
-ghost use Rattle.cl_runs.specs.Chains.{HasWritten, IsEarliestReader, IsLatestWriter};
-ghost use Rattle.cl_runs.specs.RunChains.{run_moments};
-ghost use Rattle.cl_bound.specs.Hops.{lag, forward_hop, backward_hop};
-ghost use Rattle.cl_bound.specs.declared.group_timing.GroupTiming.{GroupTiming};
-ghost use Rattle.cl_bound.specs.Bounds.{settled_timing};
-ghost use Rattle.cl_bound.specs.SettledChains.{IsSettledChain};
-ghost use Rattle.cl_bound.specs.Timings.{AlwaysKeeps};
+ghost use Rattle.cl_runs.specs.{TaskTiming.{System, IsSound}, Table.job_at, Run.{Run, jobs_of}, Legal.IsLegal, Chains.{HasWritten, IsEarliestReader, IsLatestWriter}, RunChains.run_moments};
+ghost use Rattle.cl_bound.specs.{Hops.{lag, forward_hop, backward_hop}, declared.group_timing.GroupTiming.GroupTiming, Bounds.settled_timing, SettledChains.IsSettledChain, Timings.AlwaysKeeps};
 
 /// If timings of groups x and y always hold, a job of y that just misses the write of a job of x
 /// arrives less than the lag between these timings after that job. The job before an earliest

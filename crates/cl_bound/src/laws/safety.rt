@@ -2,11 +2,7 @@
 ghost use Rattle.std.specs.Prelude.{List, map, All};
 ghost use Rattle.cl_model.specs.declared.group.Group.{Group};
 ghost use Rattle.cl_runs.specs.TaskTiming.{System, IsSound};
-ghost use Rattle.cl_bound.specs.Bounds.{Lengths, AreBoundsOf, bounds_of};
-ghost use Rattle.cl_bound.specs.Promises.{AreSafe};
-ghost use Rattle.cl_bound.specs.SettledChains.{IsSettledChain};
-ghost use Rattle.cl_bound.specs.Timings.{AlwaysKeeps};
-ghost use Rattle.cl_bound.specs.declared.group_timing.GroupTiming.{GroupTiming};
+ghost use Rattle.cl_bound.specs.{Bounds.{Lengths, AreBoundsOf, bounds_of}, Promises.AreSafe, SettledChains.IsSettledChain, Timings.AlwaysKeeps, declared.group_timing.GroupTiming.GroupTiming};
 
 /// The bounds of a settled chain, and those over any timings that always hold, are at least the
 /// reaction, the age and the reduced age of each complete job chain, and each delay, in each legal

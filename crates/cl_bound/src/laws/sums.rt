@@ -4,12 +4,8 @@
 ghost use Rattle.std.specs.Prelude.{◌≡◌, ℕ, ◌*◌, ◌<◌, ◌≤◌, List, length, map, All};
 ghost use Rattle.cl_model.specs.declared.group.Group.{Group};
 ghost use Rattle.cl_runs.specs.TaskTiming.{System, IsSound};
-ghost use Rattle.cl_bound.specs.declared.group_timing.GroupTiming.{GroupTiming};
-ghost use Rattle.cl_bound.specs.Bounds.{greatest_reaction, greatest_age, Lengths, AreBoundsOf, settled_timings, bounds_of};
-ghost use Rattle.cl_bound.specs.Ends.{ends_of, lags};
-ghost use Rattle.cl_bound.specs.Hops.{group_timing};
-ghost use Rattle.cl_bound.specs.NoGreater.{StaysWithin, AreNoGreater};
-ghost use Rattle.cl_bound.specs.SettledChains.{IsSettledChain, AreWithin};
+ghost use Rattle.cl_bound.specs.{declared.group_timing.GroupTiming.GroupTiming, Bounds.{greatest_reaction, greatest_age, Lengths, AreBoundsOf, settled_timings, bounds_of}, Ends.{ends_of, lags}, Hops.group_timing, NoGreater.{StaysWithin, AreNoGreater}, SettledChains.IsSettledChain};
+ghost use Rattle.cl_bound.specs.SettledChains.{AreWithin};
 
 /// The bounds that `bounds_of` gives for a settled chain are the sums over signed numbers that
 /// define them, and no other numbers are.

@@ -1,11 +1,8 @@
 //! Timings of groups that hold in every legal run.
 ghost use Rattle.std.specs.Prelude.{ℕ};
 ghost use Rattle.cl_model.specs.declared.group.Group.{Group};
-ghost use Rattle.cl_runs.specs.TaskTiming.{System, IsSound};
-ghost use Rattle.cl_runs.specs.Responses.{IsTimely};
-ghost use Rattle.cl_bound.specs.Hops.{group_timing};
-ghost use Rattle.cl_bound.specs.SettledChains.{IsGroupOfTask};
-ghost use Rattle.cl_bound.specs.Timings.{AlwaysKeeps};
+ghost use Rattle.cl_runs.specs.{TaskTiming.{System, IsSound}, Responses.IsTimely};
+ghost use Rattle.cl_bound.specs.{Hops.group_timing, SettledChains.IsGroupOfTask, Timings.AlwaysKeeps};
 
 /// The timing of a group by a response within which its task is timely always holds.
 pub fn timings_by_responses_hold()

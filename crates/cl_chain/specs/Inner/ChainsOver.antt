@@ -1,10 +1,7 @@
 -- Job chains over the moments of groups as lists.
 use Rattle.std.specs.Prelude.{◌≡◌, ℕ, zero, suc, Option, Some, None, ◌+◌, ◌-◌, ◌<◌, ◌≤◌, List, [], ◌∷◌, length, slice_index}
-use Rattle.cl_runs.specs.Chains.{JobChain, first_job, last_job}
-use Rattle.cl_runs.specs.Measured.{Measured, IsMeasuredBy, IsCountOf}
-use Rattle.cl_chain.specs.declared.group_moments.GroupMoments.{GroupMoments}
-use Rattle.cl_chain.specs.Inner.GroupTables.{moment_at, NeverFall, reads_in, writes_in}
-use Rattle.cl_chain.specs.Inner.Hops.{IsWrite, IsForwardHop, IsBackwardHop}
+use Rattle.cl_runs.specs.{Chains.{JobChain, first_job, last_job}, Measured.{Measured, IsMeasuredBy, IsCountOf}}
+use Rattle.cl_chain.specs.{declared.group_moments.GroupMoments.GroupMoments, Inner.{GroupTables.{moment_at, NeverFall, reads_in, writes_in}, Hops.{IsWrite, IsForwardHop, IsBackwardHop}}}
 
 -- ---- forward
 

@@ -3,13 +3,8 @@
 -- the arrival, and job 0 has one too.
 use Rattle.std.specs.Prelude.{◌≡◌, ℕ, Option, None, ◌+◌, ◌<◌, List, ◌∷◌, length, slice_set}
 use Rattle.cl_model.specs.declared.group.Group.{Group}
-use Rattle.cl_runs.specs.TaskTiming.{System}
-use Rattle.cl_runs.specs.Table.{job_at}
-use Rattle.cl_runs.specs.Run.{Run, jobs_of}
-use Rattle.cl_runs.specs.Chains.{JobChain, first_group, first_job}
-use Rattle.cl_chain.specs.declared.group_moments.GroupMoments.{GroupMoments}
-use Rattle.cl_chain.specs.Inner.GroupTables.{AreMomentsAt, AreTables, writes_in}
-use Rattle.cl_chain.specs.Inner.ChainsOver.{IsForwardOver}
+use Rattle.cl_runs.specs.{TaskTiming.System, Table.job_at, Run.{Run, jobs_of}, Chains.{JobChain, first_group, first_job}}
+use Rattle.cl_chain.specs.{declared.group_moments.GroupMoments.GroupMoments, Inner.{GroupTables.{AreMomentsAt, AreTables, writes_in}, ChainsOver.IsForwardOver}}
 
 -- a job of a task arrives at a moment
 pub record JobArrives (run : Run) (task job moment : ℕ) : Type 0 where

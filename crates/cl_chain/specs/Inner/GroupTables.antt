@@ -1,12 +1,7 @@
 -- When the jobs of groups read and write, as lists.
 use Rattle.std.specs.Prelude.{◌≡◌, ℕ, Option, Some, None, ◌+◌, ◌<◌, ◌≤◌, List, [], length, slice_index_or}
-use Rattle.cl_model.specs.declared.group.Group.{Group}
-use Rattle.cl_model.specs.Groups.{group_at}
-use Rattle.cl_runs.specs.declared.job.Job.{Job}
-use Rattle.cl_runs.specs.Table.{job_at}
-use Rattle.cl_runs.specs.TaskTiming.{System}
-use Rattle.cl_runs.specs.Run.{Run}
-use Rattle.cl_runs.specs.Moments.{Reads, Writes}
+use Rattle.cl_model.specs.{declared.group.Group.Group, Groups.group_at}
+use Rattle.cl_runs.specs.{declared.job.Job.Job, Table.job_at, TaskTiming.System, Run.Run, Moments.{Reads, Writes}}
 use Rattle.cl_check.specs.JobMoments.{IsMomentOf}
 use Rattle.cl_chain.specs.declared.group_moments.GroupMoments.{GroupMoments}
 

@@ -1,8 +1,7 @@
 -- Hops from group to group, over lists of moments.
 use Rattle.std.specs.Prelude.{◌≡◌, ℕ, Option, Some, ◌+◌, ◌<◌, ◌≤◌, List}
 use Rattle.cl_check.specs.JobMoments.{IsMomentOf}
-use Rattle.cl_chain.specs.declared.hops.Writers.{Writers}
-use Rattle.cl_chain.specs.Inner.GroupTables.{moment_at}
+use Rattle.cl_chain.specs.{declared.hops.Writers.Writers, Inner.GroupTables.moment_at}
 
 -- the first job that reads at or after a write
 pub record IsFirstReader (reads : List (Option ℕ)) (write job : ℕ) : Type 0 where

@@ -1,8 +1,7 @@
 -- Rows: the jobs that have both a start and an end, with both.
 use Rattle.std.specs.Prelude.{◌≡◌, ℕ, Option, Some, ◌+◌, ◌-◌, ◌<◌, ◌≤◌, List, length, slice_index}
 use Rattle.cl_runs.specs.Chains.{JobChain}
-use Rattle.cl_chain.specs.declared.rows.Rows.{Rows}
-use Rattle.cl_chain.specs.Inner.GroupTables.{moment_at}
+use Rattle.cl_chain.specs.{declared.rows.Rows.Rows, Inner.GroupTables.moment_at}
 
 -- the rows of the jobs below a number: the jobs, their starts and their ends
 pub record AreRowsBelow (count : ℕ) (starts ends : List (Option ℕ)) (jobs froms tos : List ℕ) : Type 0 where

@@ -1,7 +1,6 @@
 -- What a call finds of a list of faults.
 use Rattle.std.specs.Prelude.{◌≡◌, List, [], Some, Result, Ok, Err}
-use Rattle.cl_check.specs.declared.run_fault.RunFault.{RunFault}
-use Rattle.cl_check.specs.Legality.{first_fault}
+use Rattle.cl_check.specs.{declared.run_fault.RunFault.RunFault, Legality.first_fault}
 
 -- a call found no fault in a list, or its first one
 abbrev pub Finds : {X : Type 0} → Result X RunFault → List RunFault → Type 0

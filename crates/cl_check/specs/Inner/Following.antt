@@ -1,14 +1,9 @@
 -- How a run is followed on a core, from stretch to stretch.
 use Rattle.std.specs.Prelude.{◌≡◌, ℕ, ◌<◌, ◌≤◌, ◌⊎◌, Result, Ok, Err, take}
-use Rattle.cl_runs.specs.TaskTiming.{System}
-use Rattle.cl_runs.specs.Legal.{IsLegal}
-use Rattle.cl_runs.specs.Run.{Run, core_entries, entry_at}
+use Rattle.cl_runs.specs.{TaskTiming.System, Legal.IsLegal, Run.{Run, core_entries, entry_at}}
 use Rattle.cl_run_data.specs.declared.stretches.Stretch.{Stretch}
-use Rattle.cl_sched.specs.declared.core_progress.CoreProgress.{CoreProgress}
-use Rattle.cl_sched.specs.CoreProgress.{IsReached}
-use Rattle.cl_check.specs.declared.run_fault.RunFault.{RunFault}
-use Rattle.cl_check.specs.declared.run_fault.RunFault.TheVariants.{NoMemory}
-use Rattle.cl_check.specs.Legality.{IsScheduleKept, BreaksCore, BreaksSchedule, IsFirstBroken}
+use Rattle.cl_sched.specs.{declared.core_progress.CoreProgress.CoreProgress, CoreProgress.IsReached}
+use Rattle.cl_check.specs.{declared.run_fault.RunFault.{RunFault, TheVariants.NoMemory}, Legality.{IsScheduleKept, BreaksCore, BreaksSchedule, IsFirstBroken}}
 
 -- a core of a run is reached, and did what is scheduled before
 pub record IsFollowed (system : System) (run : Run) (core : ℕ) (reached : CoreProgress) : Type 0 where

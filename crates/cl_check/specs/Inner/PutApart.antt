@@ -1,7 +1,6 @@
 -- How the tasks of a run are put apart, core by core and stretch by stretch.
 use Rattle.std.specs.Prelude.{◌≡◌, ℕ, Option, Some, None, ◌-◌, ◌<◌, ◌≤◌, List, [], ◌++◌, length, replicate, take, slice_set}
-use Rattle.cl_runs.specs.TaskTiming.{System, timing_at}
-use Rattle.cl_runs.specs.Run.{Run, core_entries}
+use Rattle.cl_runs.specs.{TaskTiming.{System, timing_at}, Run.{Run, core_entries}}
 use Rattle.cl_check.specs.Apart.{RunsAlike}
 
 -- entries with idle ticks behind them up to a tick, and with the ticks of a task from there on

@@ -1,15 +1,8 @@
 -- Where a walk over the stretches of a core stands, and what it finds.
 use Rattle.std.specs.Prelude.{◌≡◌, ℕ, suc, ◌+◌, ◌-◌, ◌^◌, Option, Some, None, ◌<◌, ◌≤◌, min, List, length, take, count_by, slice_index_or}
-use Rattle.cl_runs.specs.declared.job.Job.{Job}
-use Rattle.cl_runs.specs.Run.{is_task}
-use Rattle.cl_runs.specs.Work.{work_before, work_through}
-use Rattle.cl_run_data.specs.declared.stretches.Stretch.{Stretch}
-use Rattle.cl_run_data.specs.Stretches.{entries_from}
-use Rattle.cl_check.specs.declared.job_moments.Moment.{Moment}
-use Rattle.cl_check.specs.declared.job_ends.End.{End}
-use Rattle.cl_check.specs.declared.job_ends.End.TheVariants.{Start, Finish}
-use Rattle.cl_check.specs.declared.walk.Walk.{Walk}
-use Rattle.cl_check.specs.JobMoments.{IsMomentOf, no_moment}
+use Rattle.cl_runs.specs.{declared.job.Job.Job, Run.is_task, Work.{work_before, work_through}}
+use Rattle.cl_run_data.specs.{declared.stretches.Stretch.Stretch, Stretches.entries_from}
+use Rattle.cl_check.specs.{declared.{job_moments.Moment.Moment, job_ends.End.{End, TheVariants.{Start, Finish}}, walk.Walk.Walk}, JobMoments.{IsMomentOf, no_moment}}
 
 -- in how many ticks below a moment a task runs
 abbrev pub executed_in : List (Option ℕ) → (task moment : ℕ) → ℕ

@@ -1,22 +1,11 @@
 -- When the runnables of jobs read and write: never before their windows, and within them where the job finishes in
 -- time.
 use Rattle.std.proofs.Common.{ℕ, ◌+◌, ◌-◌, ◌<◌, ◌≤◌, ◌≢◌, length, refl, arith}
-use Rattle.cl_model.specs.declared.task.AccessKind.{AccessKind}
-use Rattle.cl_model.specs.declared.task.AccessKind.TheVariants.{Explicit, Implicit, Timed}
-use Rattle.cl_runs.specs.TaskTiming.{System, timing_at, IsSound}
-use Rattle.cl_runs.specs.Table.{job_at}
-use Rattle.cl_runs.specs.Run.{Run, jobs_of}
-use Rattle.cl_runs.specs.Legal.{IsLegal}
-use Rattle.cl_runs.specs.Work.{work_through}
-use Rattle.cl_runs.specs.Moments.{Starts, Finishes, JobFinishes, ReadsBy, WritesBy, Reads, Writes}
-use Rattle.cl_runs.proofs.LegalFacts.{place_of_task, core_ticks, job_times, job_places, time_positive}
-use Rattle.cl_runs.proofs.RunArrivals.{arrives_after_deadline, released_late}
-use Rattle.cl_runs.proofs.JobProgress.{starts_late, finishes_late, finishes_apart}
-use Rattle.cl_runs.proofs.StartsFinishes.{finishes_once, starts_before, finish_earliest, finishes_by}
-use Rattle.cl_runs.proofs.Work.{work_rises}
-use Rattle.cl_comm.specs.declared.spot.Spot.{Spot}
-use Rattle.cl_comm.specs.Windows.{spot_at, window_of, window_at}
-use Rattle.cl_comm.specs.Inner.LeastTimes.{deadline_is, least_before, least_own, least_after}
+use Rattle.cl_model.specs.declared.task.AccessKind.{AccessKind, TheVariants.{Explicit, Implicit, Timed}}
+use Rattle.cl_runs.specs.{TaskTiming.{System, timing_at, IsSound}, Table.job_at, Run.{Run, jobs_of}, Legal.IsLegal, Work.work_through, Moments.{Starts, Finishes, JobFinishes, ReadsBy, WritesBy, Reads, Writes}}
+use Rattle.cl_runs.proofs.{LegalFacts.{place_of_task, core_ticks, job_times, job_places, time_positive}, RunArrivals.{arrives_after_deadline, released_late}, JobProgress.{starts_late, finishes_late, finishes_apart}, StartsFinishes.{finishes_once, starts_before, finish_earliest}}
+use Rattle.cl_runs.proofs.{StartsFinishes.finishes_by, Work.work_rises}
+use Rattle.cl_comm.specs.{declared.spot.Spot.Spot, Windows.{spot_at, window_of, window_at}, Inner.LeastTimes.{deadline_is, least_before, least_own, least_after}}
 
 -- where the least times and the response lie within each other, each window ends by the deadline
 pub windows_end_by_the_deadline : (access : AccessKind) (spot : Spot) (response : ℕ)

@@ -1,16 +1,10 @@
 -- The laws of a way to access labels, over its kind.
 use Rattle.std.proofs.Common.{◌≡◌, ℕ, ◌+◌, ◌<◌, ◌≤◌, ◌≢◌, true, length, sym, ap, ◌∙◌, arith}
 use Rattle.std.proofs.lemmas.Bool.{false≢true}
-use Rattle.cl_model.specs.declared.task.AccessKind.{AccessKind}
-use Rattle.cl_model.specs.declared.task.AccessKind.TheVariants.{Timed}
-use Rattle.cl_runs.specs.TaskTiming.{System, timing_at, IsSound}
-use Rattle.cl_runs.specs.Table.{job_at}
-use Rattle.cl_runs.specs.Run.{Run, jobs_of}
-use Rattle.cl_runs.specs.Legal.{IsLegal}
-use Rattle.cl_runs.specs.Moments.{Starts, JobFinishes}
+use Rattle.cl_model.specs.declared.task.AccessKind.{AccessKind, TheVariants.Timed}
+use Rattle.cl_runs.specs.{TaskTiming.{System, timing_at, IsSound}, Table.job_at, Run.{Run, jobs_of}, Legal.IsLegal, Moments.{Starts, JobFinishes}}
 use Rattle.cl_runs.proofs.MomentFacts as moments
-use Rattle.cl_comm.specs.Windows.{spot_at, window_of}
-use Rattle.cl_comm.specs.AccessMoments.{ReadsAs, WritesAs, runs_on_reads}
+use Rattle.cl_comm.specs.{Windows.{spot_at, window_of}, AccessMoments.{ReadsAs, WritesAs, runs_on_reads}}
 use Rattle.cl_comm.specs.Inner.AccessTimes as times
 
 -- the tasks of a kind that runs on reads aren't timed

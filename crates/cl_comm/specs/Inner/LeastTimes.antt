@@ -5,10 +5,7 @@ use Rattle.std.specs.List.{AllZip}
 use Rattle.std.proofs.Math.Numerals.{add-one}
 use Rattle.std.proofs.lemmas.List.{take_all}
 use Rattle.std.proofs.lemmas.List.Sums.{sum_by-cons, sum_by-take-drop, sum_by-drop_more, sum_by_more}
-use Rattle.cl_runs.specs.TaskTiming.{TimeRange, Timing, no_range}
-use Rattle.cl_runs.specs.declared.job.Job.{Job}
-use Rattle.cl_runs.specs.Table.{job_at, LiesIn, HasTimes}
-use Rattle.cl_runs.specs.Work.{work_before, work_through}
+use Rattle.cl_runs.specs.{TaskTiming.{TimeRange, Timing, no_range}, declared.job.Job.Job, Table.{job_at, LiesIn, HasTimes}, Work.{work_before, work_through}}
 use Rattle.cl_runs.proofs.ZippedLists.{zip_at, zip_take, zip_drop}
 use Rattle.cl_comm.specs.Windows.{least_times, spot_at}
 

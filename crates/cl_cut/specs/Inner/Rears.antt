@@ -1,15 +1,9 @@
 -- The best cuts of the rear parts of a chain, from one group to the end each. Times are in ticks.
 use Rattle.std.specs.Prelude.{◌≡◌, ℕ, ◌+◌, ◌-◌, ◌<◌, ◌≤◌, nat_lt, if◌then◌else◌, All, List, [], ◌∷◌, length, slice_index, slice_index_or}
-use Rattle.cl_model.specs.declared.limits.TheConstants.{MOST_STEPS}
-use Rattle.cl_model.specs.declared.group.Group.{Group}
-use Rattle.cl_model.specs.declared.model.SystemModel.{SystemModel}
-use Rattle.cl_model.specs.Groups.{IsGroupOf}
-use Rattle.cl_runs.specs.TaskTiming.{System}
-use Rattle.cl_runs.specs.SystemOf.{system_of}
+use Rattle.cl_model.specs.{declared.{limits.TheConstants.MOST_STEPS, group.Group.Group, model.SystemModel.SystemModel}, Groups.IsGroupOf}
+use Rattle.cl_runs.specs.{TaskTiming.System, SystemOf.system_of}
 use Rattle.cl_bound.specs.Answers.{answers_of, NoneIsLate}
-use Rattle.cl_cut.specs.declared.rears.Rear.{Rear}
-use Rattle.cl_cut.specs.Values.{part, IsValue}
-use Rattle.cl_cut.specs.Cuts.{IsBestCutFrom}
+use Rattle.cl_cut.specs.{declared.rears.Rear.Rear, Values.{part, IsValue}, Cuts.IsBestCutFrom}
 
 -- groups of a model that can be cut: no more than a chain has, of its tasks, and none of these late
 pub record AreSettledGroups (model : SystemModel) (groups : List Group) : Type 0 where

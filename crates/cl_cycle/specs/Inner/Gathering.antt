@@ -1,14 +1,9 @@
 -- How the tasks in phase above a task are gathered, period by period. Times are in ticks.
 use Rattle.std.specs.Prelude.{◌≡◌, ℕ, ◌<◌, ◌≤◌, Bool, false, cond, nat_lt, List, All, Option, None, reverse}
-use Rattle.cl_model.specs.declared.limits.TheConstants.{MOST_TICKS}
-use Rattle.cl_model.specs.declared.model.SystemModel.{SystemModel}
-use Rattle.cl_model.specs.ByNumber.{task_at, core_of, stimulus_of, tasks_of_core}
+use Rattle.cl_model.specs.{declared.{limits.TheConstants.MOST_TICKS, model.SystemModel.SystemModel}, ByNumber.{task_at, core_of, stimulus_of, tasks_of_core}}
 use Rattle.cl_runs.specs.TaskTiming.{System}
-use Rattle.cl_stim.specs.declared.phase.Phase.{Phase}
-use Rattle.cl_stim.specs.Multiples.{hyperperiod_of}
-use Rattle.cl_stim.specs.Phase.{IsPhaseInRange, phase_of}
-use Rattle.cl_cycle.specs.declared.cycle.Cycle.{Cycle}
-use Rattle.cl_cycle.specs.Cycles.{phases_with, arrivals_together, is_of_period}
+use Rattle.cl_stim.specs.{declared.phase.Phase.Phase, Multiples.hyperperiod_of, Phase.{IsPhaseInRange, phase_of}}
+use Rattle.cl_cycle.specs.{declared.cycle.Cycle.Cycle, Cycles.{phases_with, arrivals_together, is_of_period}}
 
 -- the tasks on the core of a task
 abbrev pub tasks_beside : SystemModel → (task : ℕ) → List ℕ

@@ -1,15 +1,9 @@
 //! How many jobs of a phase arrive in a window, and that the jobs of legal runs are no more.
 ghost use Rattle.std.specs.Prelude.{◌≡◌, ℕ, ℤ, pos, ◌+◌, ◌+ℤ◌, ◌-ℤ◌, ◌≤◌, ◌<◌, false, Some, length};
 ghost use Rattle.std.specs.Int.{◌∣◌};
-ghost use Rattle.cl_model.specs.declared.stimulus.StimulusKind.{StimulusKind};
-ghost use Rattle.cl_model.specs.Timing.{greatest_jitter};
-ghost use Rattle.cl_runs.specs.Pattern.{IsPattern};
-ghost use Rattle.cl_runs.specs.TaskTiming.{System, IsSound, timing_at};
-ghost use Rattle.cl_runs.specs.Run.{Run, jobs_of};
-ghost use Rattle.cl_runs.specs.Legal.{IsLegal};
-ghost use Rattle.cl_stim.specs.declared.phase.Phase.{Phase};
-ghost use Rattle.cl_stim.specs.Phase.{IsPhase, phase_of, arrives_at};
-ghost use Rattle.cl_stim.specs.Releases.{releases_in, most_releases};
+ghost use Rattle.cl_model.specs.{declared.stimulus.StimulusKind.StimulusKind, Timing.greatest_jitter};
+ghost use Rattle.cl_runs.specs.{Pattern.IsPattern, TaskTiming.{System, IsSound, timing_at}, Run.{Run, jobs_of}, Legal.IsLegal};
+ghost use Rattle.cl_stim.specs.{declared.phase.Phase.Phase, Phase.{IsPhase, phase_of, arrives_at}, Releases.{releases_in, most_releases}};
 ghost use Rattle.cl_cycle.specs.Counts.{arrivals_from};
 
 /// As many jobs of a phase arrive in a window as in one that begins whole periods later.

@@ -1,17 +1,9 @@
 //! The cycle of a task, after which the tasks in phase above it come round.
 ghost use Rattle.std.specs.Prelude.{◌≡◌, ℕ, ◌*◌, ◌<◌, ◌≤◌, true, length};
 ghost use Rattle.std.specs.Int.{◌∣◌};
-ghost use Rattle.cl_model.specs.declared.limits.TheConstants.{MOST_TICKS};
-ghost use Rattle.cl_model.specs.declared.model.SystemModel.{SystemModel};
-ghost use Rattle.cl_model.specs.Validity.{IsValid};
-ghost use Rattle.cl_runs.specs.Priorities.{tasks_above};
-ghost use Rattle.cl_runs.specs.SystemOf.{system_of};
-ghost use Rattle.cl_runs.specs.TaskTiming.{System, IsSound, timing_at};
-ghost use Rattle.cl_cycle.specs.declared.cycle.TheConstants.{MOST_IN_CYCLE};
-ghost use Rattle.cl_cycle.specs.Counts.{arrivals_of};
-ghost use Rattle.cl_cycle.specs.Cycles.{is_one_of, in_phase_above, cycle_of};
-ghost use Rattle.cl_cycle.specs.DifferingRunnables.{DifferInRunnables};
-ghost use Rattle.cl_cycle.specs.Promises.{ComesRound};
+ghost use Rattle.cl_model.specs.{declared.{limits.TheConstants.MOST_TICKS, model.SystemModel.SystemModel}, Validity.IsValid};
+ghost use Rattle.cl_runs.specs.{Priorities.tasks_above, SystemOf.system_of, TaskTiming.{System, IsSound, timing_at}};
+ghost use Rattle.cl_cycle.specs.{declared.cycle.TheConstants.MOST_IN_CYCLE, Counts.arrivals_of, Cycles.{is_one_of, in_phase_above, cycle_of}, DifferingRunnables.DifferInRunnables, Promises.ComesRound};
 
 /// The cycle of a task of a sound system has a tick or more. It is a multiple of the period of the
 /// task, if its arrivals are fixed, and of those of the tasks in phase, whose arrivals all are.

@@ -1,15 +1,7 @@
 -- Where a task stands in the work of its jobs, and what of it is known by then. Times are in ticks.
 use Rattle.std.specs.Prelude.{◌≡◌, ℕ, suc, Some, ◌+◌, ◌<◌, ◌≤◌, List, length, slice_index}
-use Rattle.cl_runs.specs.declared.job.Job.{Job}
-use Rattle.cl_runs.specs.Table.{job_at}
-use Rattle.cl_runs.specs.TaskTiming.{System, timing_at}
-use Rattle.cl_runs.specs.Run.{Run, jobs_of, entry_at, executed}
-use Rattle.cl_runs.specs.Work.{work_before}
-use Rattle.cl_runs.specs.Moments.{JobFinishes}
-use Rattle.cl_draw.specs.declared.cursor.Cursor.{Cursor}
-use Rattle.cl_draw.specs.declared.parts.Part.{Part}
-use Rattle.cl_draw.specs.declared.parts.Work.{Work}
-use Rattle.cl_draw.specs.Parts.{due_in, part_at, IsPart, IsFollowedBy, HasPartAt}
+use Rattle.cl_runs.specs.{declared.job.Job.Job, Table.job_at, TaskTiming.{System, timing_at}, Run.{Run, jobs_of, entry_at, executed}, Work.work_before, Moments.JobFinishes}
+use Rattle.cl_draw.specs.{declared.{cursor.Cursor.Cursor, parts.{Part.Part, Work.Work}}, Parts.{due_in, part_at, IsPart, IsFollowedBy, HasPartAt}}
 
 -- how long a runnable of a job takes: 0 where there is none
 abbrev pub time_at : List Job → (job place : ℕ) → ℕ

@@ -1,16 +1,9 @@
 -- What is drawn of a run.
 use Rattle.std.specs.Prelude.{◌≡◌, ℕ, ◌<◌, length, All}
-use Rattle.cl_model.specs.declared.model.SystemModel.{SystemModel}
-use Rattle.cl_model.specs.ByNumber.{task_at}
-use Rattle.cl_model.specs.Validity.{IsValid}
+use Rattle.cl_model.specs.{declared.model.SystemModel.SystemModel, ByNumber.task_at, Validity.IsValid}
 use Rattle.cl_runs.specs.Run.{Run}
 use Rattle.cl_picture.specs.Window.{IsPictureWindow}
-use Rattle.cl_draw.specs.declared.rows.Row.{Row}
-use Rattle.cl_draw.specs.declared.drawing.Drawing.{Drawing}
-use Rattle.cl_draw.specs.Rows.{row_at}
-use Rattle.cl_draw.specs.Reactions.{reaction_at}
-use Rattle.cl_draw.specs.Picture.{AreTaskRows, AreReactions}
-use Rattle.cl_draw.specs.Inner.Heights.{ArePlaces}
+use Rattle.cl_draw.specs.{declared.{rows.Row.Row, drawing.Drawing.Drawing}, Rows.row_at, Reactions.reaction_at, Picture.{AreTaskRows, AreReactions}, Inner.Heights.ArePlaces}
 use Rattle.cl_draw.specs.Inner.DrawnBars as bars
 use Rattle.cl_draw.specs.Inner.Looks as looks
 

@@ -1,9 +1,7 @@
 -- Which bars can be drawn.
 use Rattle.std.specs.Prelude.{◌<◌, length}
 use Rattle.cl_model.specs.declared.task.TaskDef.{TaskDef}
-use Rattle.cl_picture.specs.declared.item.Item.{Item}
-use Rattle.cl_picture.specs.declared.item.Bar.{Bar}
-use Rattle.cl_picture.specs.declared.item.Rest.{Rest}
+use Rattle.cl_picture.specs.declared.item.{Item.Item, Bar.Bar, Rest.Rest}
 use Rattle.cl_picture.specs.declared.item.Rest.TheVariants as rest
 
 -- the runnable that an item names is one of the task

@@ -1,9 +1,7 @@
 -- Where heads and rows begin, as lists.
 use Rattle.std.specs.Prelude.{◌≡◌, ℕ, ◌+◌, ◌<◌, ◌≤◌, List, length, slice_index}
 use Rattle.cl_model.specs.declared.model.SystemModel.{SystemModel}
-use Rattle.cl_draw.specs.declared.places.Places.{Places}
-use Rattle.cl_draw.specs.declared.places.TheConstants.{MOST_HEIGHT}
-use Rattle.cl_draw.specs.Places.{core_top, row_top}
+use Rattle.cl_draw.specs.{declared.places.{Places.Places, TheConstants.MOST_HEIGHT}, Places.{core_top, row_top}}
 
 -- where the heads of the cores begin, and where the rows of the last one end
 pub record AreCoreTops (model : SystemModel) (tops : List ℕ) : Type 0 where

@@ -2,9 +2,7 @@
 use Rattle.std.specs.Prelude.{ℕ, Option, Some, None, ◌*◌, ◌^◌, ◌<◌, ◌≤◌, List, length, All}
 use Rattle.cl_model.specs.declared.model.SystemModel.{SystemModel}
 use Rattle.cl_picture.specs.Window.{IsPictureWindow}
-use Rattle.cl_draw.specs.declared.chain_lines.Look.{Look}
-use Rattle.cl_draw.specs.declared.stops.Stop.{Stop}
-use Rattle.cl_draw.specs.declared.stops.Reaction.{Reaction}
+use Rattle.cl_draw.specs.declared.{chain_lines.Look.Look, stops.{Stop.Stop, Reaction.Reaction}}
 
 -- a chain is drawn in a window, in one of four colours, and at a height that fits
 pub record IsLook (look : Look) : Type 0 where

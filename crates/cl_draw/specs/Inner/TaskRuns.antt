@@ -1,11 +1,7 @@
 -- A task of a model, in a legal run of it.
 use Rattle.std.specs.Prelude.{ℕ, Bool, Option, Some, None, if◌then◌else◌, ◌<◌, length}
-use Rattle.cl_model.specs.declared.model.SystemModel.{SystemModel}
-use Rattle.cl_model.specs.ByNumber.{task_at}
-use Rattle.cl_model.specs.Validity.{IsValid}
-use Rattle.cl_runs.specs.Run.{Run, jobs_of}
-use Rattle.cl_runs.specs.SystemOf.{system_of}
-use Rattle.cl_runs.specs.Legal.{IsLegal}
+use Rattle.cl_model.specs.{declared.model.SystemModel.SystemModel, ByNumber.task_at, Validity.IsValid}
+use Rattle.cl_runs.specs.{Run.{Run, jobs_of}, SystemOf.system_of, Legal.IsLegal}
 use Rattle.cl_draw.specs.declared.parts.Part.{Part}
 
 pub record IsTaskRun (model : SystemModel) (run : Run) (task : ℕ) : Type 0 where

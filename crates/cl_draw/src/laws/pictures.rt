@@ -1,17 +1,9 @@
 //! A window of a run has exactly one picture, and what the picture shows of the chains is what is
 //! measured in the run.
 ghost use Rattle.std.specs.Prelude.{◌≡◌, ℕ, ◌<◌, ◌≤◌, List, length};
-ghost use Rattle.cl_model.specs.declared.model.SystemModel.{SystemModel};
-ghost use Rattle.cl_model.specs.Groups.{groups_at};
-ghost use Rattle.cl_model.specs.Validity.{IsValid};
-ghost use Rattle.cl_runs.specs.Legal.{IsLegal};
-ghost use Rattle.cl_runs.specs.Measured.{IsMeasured, Measured};
-ghost use Rattle.cl_runs.specs.Run.{Run};
-ghost use Rattle.cl_runs.specs.RunChains.{run_moments};
-ghost use Rattle.cl_runs.specs.SystemOf.{system_of};
-ghost use Rattle.cl_draw.specs.declared.places.TheConstants.{FIRST_TOP, HEAD, ROW};
-ghost use Rattle.cl_draw.specs.Picture.{IsPictureOf};
-ghost use Rattle.cl_draw.specs.Reactions.{IsShownOf, reaction_at};
+ghost use Rattle.cl_model.specs.{declared.model.SystemModel.SystemModel, Groups.groups_at, Validity.IsValid};
+ghost use Rattle.cl_runs.specs.{Legal.IsLegal, Measured.{IsMeasured, Measured}, Run.Run, RunChains.run_moments, SystemOf.system_of};
+ghost use Rattle.cl_draw.specs.{declared.places.TheConstants.{FIRST_TOP, HEAD, ROW}, Picture.IsPictureOf, Reactions.{IsShownOf, reaction_at}};
 
 /// Each window of a legal run of a valid model has a picture.
 pub fn windows_have_pictures()

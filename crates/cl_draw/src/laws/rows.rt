@@ -1,26 +1,9 @@
 //! Where the bars of a row lie, and what they show.
 ghost use Rattle.std.specs.Prelude.{◌≡◌, ◌+◌, ℕ, ◌<◌, ◌≤◌, ◌++◌, [], ◌∷◌, List, Some, codes, filter, length, map};
-ghost use Rattle.cl_model.specs.declared.model.SystemModel.{SystemModel};
-ghost use Rattle.cl_model.specs.declared.task.TaskDef.{TaskDef};
-ghost use Rattle.cl_model.specs.ByNumber.{deadline_of, task_at};
-ghost use Rattle.cl_model.specs.Validity.{IsValid};
-ghost use Rattle.cl_picture.specs.declared.item.Bar.{Bar};
-ghost use Rattle.cl_picture.specs.declared.item.Item.{Item};
-ghost use Rattle.cl_picture.specs.declared.window.Window.{Window};
-ghost use Rattle.cl_picture.specs.Bars.{counts};
-ghost use Rattle.cl_picture.specs.Pieces.{Fixed};
-ghost use Rattle.cl_picture.specs.Shown.{AreBarsOf, IsBarOf, IsUnder, LieSideBySide};
-ghost use Rattle.cl_picture.specs.Window.{high_of, low_of};
-ghost use Rattle.cl_runs.specs.Legal.{IsLegal};
-ghost use Rattle.cl_runs.specs.Run.{Run, entry_at, jobs_of};
-ghost use Rattle.cl_runs.specs.SystemOf.{system_of};
-ghost use Rattle.cl_runs.specs.TaskTiming.{timing_at};
-ghost use Rattle.cl_draw.specs.declared.rows.Row.{Row};
-ghost use Rattle.cl_draw.specs.Hovers.{bar_shape, hover_pieces};
-ghost use Rattle.cl_draw.specs.Items.{bands, part_item};
-ghost use Rattle.cl_draw.specs.Picture.{window_between};
-ghost use Rattle.cl_draw.specs.RowLines.{bar_line};
-ghost use Rattle.cl_draw.specs.Rows.{IsRowOf};
+ghost use Rattle.cl_model.specs.{declared.{model.SystemModel.SystemModel, task.TaskDef.TaskDef}, ByNumber.{deadline_of, task_at}, Validity.IsValid};
+ghost use Rattle.cl_picture.specs.{declared.{item.{Bar.Bar, Item.Item}, window.Window.Window}, Bars.counts, Pieces.Fixed, Shown.{AreBarsOf, IsBarOf, IsUnder, LieSideBySide}, Window.{high_of, low_of}};
+ghost use Rattle.cl_runs.specs.{Legal.IsLegal, Run.{Run, entry_at, jobs_of}, SystemOf.system_of, TaskTiming.timing_at};
+ghost use Rattle.cl_draw.specs.{declared.rows.Row.Row, Hovers.{bar_shape, hover_pieces}, Items.{bands, part_item}, Picture.window_between, RowLines.bar_line, Rows.IsRowOf};
 
 /// In the picture of a legal run of a valid model the bars of the bands of a row lie side by side,
 /// and so do those of its parts: none overlaps another, each is at least one unit wide, and all lie

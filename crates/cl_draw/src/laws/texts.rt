@@ -1,14 +1,9 @@
 //! The text of a picture: how long it is, and that no name or number in it can be read as markup.
 ghost use Rattle.std.specs.Prelude.{ℕ, ◌*◌, ◌<◌, ◌≤◌, List, length};
-ghost use Rattle.cl_model.specs.declared.model.SystemModel.{SystemModel};
-ghost use Rattle.cl_model.specs.AreNamed.{AreNamed};
-ghost use Rattle.cl_model.specs.Validity.{IsValid};
+ghost use Rattle.cl_model.specs.{declared.model.SystemModel.SystemModel, AreNamed.AreNamed, Validity.IsValid};
 ghost use Rattle.cl_picture.specs.Plain.{ArePlain};
-ghost use Rattle.cl_runs.specs.Legal.{IsLegal};
-ghost use Rattle.cl_runs.specs.Run.{Run};
-ghost use Rattle.cl_runs.specs.SystemOf.{system_of};
-ghost use Rattle.cl_draw.specs.Lengths.{bar_count, most_length};
-ghost use Rattle.cl_draw.specs.Picture.{IsPictureOf, picture, window_between};
+ghost use Rattle.cl_runs.specs.{Legal.IsLegal, Run.Run, SystemOf.system_of};
+ghost use Rattle.cl_draw.specs.{Lengths.{bar_count, most_length}, Picture.{IsPictureOf, picture, window_between}};
 
 /// No name and no number in a picture has a byte that the format takes as its own, which are `<`,
 /// `>`, `&` and `"`, where the names of the model are of the name grammar.

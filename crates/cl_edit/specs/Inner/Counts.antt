@@ -1,12 +1,7 @@
 -- How many edits were listed so far, and whether one more is one too many.
 use Rattle.std.specs.Prelude.{◌+◌, Bool, nat_le, ◌&&◌, ◌||◌, cond, if◌then◌else◌, Result, Ok, Err}
-use Rattle.cl_text.specs.declared.fault.LinesFault.{LinesFault}
-use Rattle.cl_text.specs.declared.fault.LinesFault.TheVariants.{BadLine}
-use Rattle.cl_edit.specs.declared.edit.Edit.{Edit}
-use Rattle.cl_edit.specs.declared.edit_lines.Counted.{Counted}
-use Rattle.cl_edit.specs.declared.edit_lines.ListedEdit.{ListedEdit}
-use Rattle.cl_edit.specs.declared.limits.TheConstants.{MOST_EDITS, MOST_REPORTS}
-use Rattle.cl_edit.specs.Reading.{is_written}
+use Rattle.cl_text.specs.declared.fault.LinesFault.{LinesFault, TheVariants.BadLine}
+use Rattle.cl_edit.specs.{declared.{edit.Edit.Edit, edit_lines.{Counted.Counted, ListedEdit.ListedEdit}, limits.TheConstants.{MOST_EDITS, MOST_REPORTS}}, Reading.is_written}
 
 -- whether there is no room for this edit
 abbrev pub is_full : Counted → Edit → Bool

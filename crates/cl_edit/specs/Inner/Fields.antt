@@ -4,12 +4,7 @@ use Rattle.std.specs.Option.{option_map}
 use Rattle.std.specs.List.{list_all}
 use Rattle.std.specs.Str.{bytes_eq}
 use Rattle.std.specs.Str.Parse.{digits_value}
-use Rattle.cl_model.specs.declared.limits.TheConstants.{MOST_TICKS}
-use Rattle.cl_model.specs.declared.chain.RequirementKind.{RequirementKind}
-use Rattle.cl_model.specs.declared.task.AccessKind.{AccessKind}
-use Rattle.cl_model.specs.Name.{is_name}
-use Rattle.cl_model.specs.Reading.Checks.{meaning_of}
-use Rattle.cl_model.specs.Reading.Tables.{access_words, requirement_words}
+use Rattle.cl_model.specs.{declared.{limits.TheConstants.MOST_TICKS, chain.RequirementKind.RequirementKind, task.AccessKind.AccessKind}, Name.is_name, Reading.{Checks.meaning_of, Tables.{access_words, requirement_words}}}
 use Rattle.cl_edit.specs.Inner.Parts.{parts}
 
 -- a name

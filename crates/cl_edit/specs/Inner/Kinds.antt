@@ -1,11 +1,7 @@
 -- What an edit does to the kind of a stimulus.
 use Rattle.std.specs.Prelude.{Bool, false}
-use Rattle.cl_model.specs.declared.stimulus.StimulusKind.{StimulusKind}
-use Rattle.cl_model.specs.Kinds.{is_periodic}
-use Rattle.cl_edit.specs.declared.edit.Edit.{Edit}
-use Rattle.cl_edit.specs.declared.edit.Edit.TheVariants.{Period, Offset, Jitter, Distances, Burst}
-use Rattle.cl_model.specs.Changes.{with_period, with_offset, with_jitter, with_distances, with_burst}
-use Rattle.cl_edit.specs.Edited.{is_sporadic, is_burst, has_offset}
+use Rattle.cl_model.specs.{declared.stimulus.StimulusKind.StimulusKind, Kinds.is_periodic, Changes.{with_period, with_offset, with_jitter, with_distances, with_burst}}
+use Rattle.cl_edit.specs.{declared.edit.Edit.{Edit, TheVariants.{Period, Offset, Jitter, Distances, Burst}}, Edited.{is_sporadic, is_burst, has_offset}}
 
 -- whether it sets this kind
 abbrev pub sets : Edit → StimulusKind → Bool

@@ -2,16 +2,8 @@
 use Rattle.std.specs.Prelude.{◌≡◌, ◌≢◌, ℕ, ◌+◌, ◌^◌, ◌<◌, ◌≤◌, Bool, not, ◌&&◌, if◌then◌else◌, List, [], ◌∷◌, length, map, All, Option, Some, None, codes}
 use Rattle.std.specs.Str.{bytes_eq}
 use denote.Bor.{Bor}
-use Rattle.cl_edit.specs.declared.cursor.Cursor.{Cursor}
-use Rattle.cl_edit.specs.declared.edit.Edit.{Edit}
-use Rattle.cl_edit.specs.declared.edit_lines.ListedEdit.{ListedEdit}
-use Rattle.cl_edit.specs.declared.limits.TheConstants.{MOST_EDITS}
-use Rattle.cl_edit.specs.declared.version.Version.{Version}
-use Rattle.cl_edit.specs.declared.version.Version.TheVariants.{One, Two}
-use Rattle.cl_edit.specs.Lines.{edit_text}
-use Rattle.cl_edit.specs.Reading.{IsLineEdit, edits_of, said_of}
-use Rattle.cl_edit.specs.Said.{Said, lines, said_from, plain, without_mark, IsTitled}
-use Rattle.cl_edit.specs.Inner.LineReads.{edit_in}
+use Rattle.cl_edit.specs.{declared.{cursor.Cursor.Cursor, edit.Edit.Edit, edit_lines.ListedEdit.ListedEdit, limits.TheConstants.MOST_EDITS, version.Version.{Version, TheVariants.{One, Two}}}, Lines.edit_text, Reading.{IsLineEdit, edits_of, said_of}, Said.{Said, lines, said_from, plain}}
+use Rattle.cl_edit.specs.{Said.{without_mark, IsTitled}, Inner.LineReads.edit_in}
 
 -- ---- lines and edits that are left
 

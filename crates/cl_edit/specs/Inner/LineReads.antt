@@ -2,17 +2,9 @@
 use Rattle.std.specs.Prelude.{ℕ, zero, suc, false, if◌then◌else◌, Option, Some, None, List, [], ◌∷◌, ◌++◌, map, codes}
 use Rattle.std.specs.Option.{option_map, option_and_then}
 use Rattle.std.specs.Str.{bytes_eq}
-use Rattle.cl_model.specs.declared.limits.TheConstants.{MOST_TICKS, MOST_PRIORITY, MOST_REQUIRED, MOST_TASKS, MOST_RUNNABLES, MOST_ACCESSES, MOST_STEPS, MOST_HOPS, LEAST_JOBS_OF_BURST, MOST_JOBS_OF_BURST}
-use Rattle.cl_model.specs.declared.task.RunnableDef.{RunnableDef}
-use Rattle.cl_model.specs.declared.task.TaskDef.{TaskDef}
-use Rattle.cl_model.specs.Named.{has_name}
-use Rattle.cl_edit.specs.declared.edit.NamedPriority.{NamedPriority}
-use Rattle.cl_edit.specs.declared.edit.Edit.{Edit}
-use Rattle.cl_edit.specs.declared.edit.Edit.TheVariants.{Range, Whole, Period, Offset, Jitter, Distances, Burst, Deadline, Swap, Priorities, Move, Kind, AddTask, DropTask, AddChain, DropChain, Requirement, DropRequirement, Report, Tighten, Verify}
-use Rattle.cl_edit.specs.declared.version.Version.{Version}
-use Rattle.cl_edit.specs.declared.version.Version.TheVariants.{One, Two}
-use Rattle.cl_edit.specs.Inner.Parts.{parts, first_read, then_read, with_left, if_done}
-use Rattle.cl_edit.specs.Inner.Fields.{name_in, number_in, time_in, flag_in, access_in, deadline_in, names_in, requirement_kind_in}
+use Rattle.cl_model.specs.{declared.{limits.TheConstants.{MOST_TICKS, MOST_PRIORITY, MOST_REQUIRED, MOST_TASKS, MOST_RUNNABLES, MOST_ACCESSES, MOST_STEPS, MOST_HOPS, LEAST_JOBS_OF_BURST, MOST_JOBS_OF_BURST}, task.{RunnableDef.RunnableDef, TaskDef.TaskDef}}, Named.has_name}
+use Rattle.cl_edit.specs.declared.edit.{NamedPriority.NamedPriority, Edit.{Edit, TheVariants.{Range, Whole, Period, Offset, Jitter, Distances, Burst, Deadline, Swap, Priorities, Move, Kind, AddTask, DropTask, AddChain, DropChain, Requirement, DropRequirement, Report, Tighten, Verify}}}
+use Rattle.cl_edit.specs.{declared.version.Version.{Version, TheVariants.{One, Two}}, Inner.{Parts.{parts, first_read, then_read, with_left, if_done}, Fields.{name_in, number_in, time_in, flag_in, access_in, deadline_in, names_in, requirement_kind_in}}}
 
 -- what is read of words, and the words that are left
 abbrev pub Read : Type 0 → Type 0

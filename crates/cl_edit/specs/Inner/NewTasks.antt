@@ -1,20 +1,10 @@
 -- The checks of a new task by the tasks that a model has, and by the labels that are its own.
 use Rattle.std.specs.Prelude.{◌≡◌, ℕ, ◌+◌, Bool, true, ◌&&◌, nat_lt, List, [], ◌∷◌, ◌++◌, length, sum_by, Option}
 use Rattle.std.specs.List.{flat_map}
-use Rattle.cl_model.specs.declared.limits.TheConstants.{MOST_RUNNABLES_OF_MODEL}
-use Rattle.cl_model.specs.declared.model.SystemModel.{SystemModel}
+use Rattle.cl_model.specs.{declared.{limits.TheConstants.MOST_RUNNABLES_OF_MODEL, model.SystemModel.SystemModel, refusal.{Code.TheVariants.M41, Refusal.Refusal}, stimulus.StimulusKind.StimulusKind, task.{RunnableDef.RunnableDef, TaskDef.TaskDef}}, Named.{same_name, has_name, is_some_and}}
+use Rattle.cl_model.specs.{Named.{core_names, label_names, tasks_on, all_runnables, labels_written}, Place.entry_of, Refusals.{when, in_order, each}, Timing.deadline_under, ValidTasks.{core_check, stimulus_check, priority_check, late_check, release_check, room_check, empty_check}}
+use Rattle.cl_model.specs.{ValidTasks.{body_checks, spans_too_many, is_outpaced_by, deadline_check}, Changes.with_new_task}
 use Rattle.cl_model.specs.declared.place.Part.TheVariants as part
-use Rattle.cl_model.specs.declared.refusal.Code.TheVariants.{M41}
-use Rattle.cl_model.specs.declared.refusal.Refusal.{Refusal}
-use Rattle.cl_model.specs.declared.stimulus.StimulusKind.{StimulusKind}
-use Rattle.cl_model.specs.declared.task.RunnableDef.{RunnableDef}
-use Rattle.cl_model.specs.declared.task.TaskDef.{TaskDef}
-use Rattle.cl_model.specs.Named.{same_name, has_name, is_some_and, core_names, label_names, tasks_on, all_runnables, labels_written}
-use Rattle.cl_model.specs.Place.{entry_of}
-use Rattle.cl_model.specs.Refusals.{when, in_order, each}
-use Rattle.cl_model.specs.Timing.{deadline_under}
-use Rattle.cl_model.specs.ValidTasks.{core_check, stimulus_check, priority_check, late_check, release_check, room_check, empty_check, body_checks, spans_too_many, is_outpaced_by, deadline_check}
-use Rattle.cl_model.specs.Changes.{with_new_task}
 use Rattle.cl_edit.specs.FewListChecks.{new_task_name_check, new_runnables_check, below_new_check}
 
 -- ---- M29 to M41

@@ -1,23 +1,11 @@
 -- Changes of when tasks run, and what the checks see of each task after one. Times are in ticks.
 use Rattle.std.specs.Prelude.{◌≡◌, ℕ, ◌<◌, ◌⊎◌, Bool, ◌==◌, nat_lt, nat_le, if◌then◌else◌, List, [], ◌∷◌, Option, unwrap_or, length, map, slice_index_or, All}
 use Rattle.std.specs.List.{list_any}
-use Rattle.cl_model.specs.declared.changes.TaskPriority.{TaskPriority}
-use Rattle.cl_model.specs.declared.model.SystemModel.{SystemModel}
-use Rattle.cl_model.specs.declared.task.TaskDef.{TaskDef}
+use Rattle.cl_model.specs.{declared.{changes.TaskPriority.TaskPriority, model.SystemModel.SystemModel, task.TaskDef.TaskDef, refusal.{Code.TheVariants.{M32, M33}, Refusal.Refusal}, stimulus.StimulusKind.StimulusKind}, Changes.{stimulus_at, with_kind, with_deadline, with_priorities}}
+use Rattle.cl_model.specs.{Changes.with_place, ByNumber.{task_at, core_at, core_of, stimulus_of, deadline_of}, Named.same_name, Refusals.{when, in_order, each}, Timing.{least_distance, greatest_jitter}, ValidTasks.task_key}
 use Rattle.cl_model.specs.declared.place.Key.TheVariants as key
-use Rattle.cl_model.specs.declared.refusal.Code.TheVariants.{M32, M33}
-use Rattle.cl_model.specs.declared.refusal.Refusal.{Refusal}
-use Rattle.cl_model.specs.declared.stimulus.StimulusKind.{StimulusKind}
-use Rattle.cl_model.specs.Changes.{stimulus_at, with_kind, with_deadline, with_priorities, with_place}
-use Rattle.cl_model.specs.ByNumber.{task_at, core_at, core_of, stimulus_of, deadline_of}
-use Rattle.cl_model.specs.Named.{same_name}
-use Rattle.cl_model.specs.Refusals.{when, in_order, each}
-use Rattle.cl_model.specs.Timing.{least_distance, greatest_jitter}
-use Rattle.cl_model.specs.ValidTasks.{task_key}
-use Rattle.cl_edit.specs.declared.pace.Retiming.{Retiming}
+use Rattle.cl_edit.specs.{declared.pace.{Retiming.Retiming, Pace.Pace}, Changing.IsPriorityOf}
 use Rattle.cl_edit.specs.declared.pace.Retiming.TheVariants as change
-use Rattle.cl_edit.specs.declared.pace.Pace.{Pace}
-use Rattle.cl_edit.specs.Changing.{IsPriorityOf}
 
 -- ---- changes
 

@@ -1,19 +1,10 @@
 -- Tasks that are refused beside another one of their core, and the first one that is. Times are in ticks.
 use Rattle.std.specs.Prelude.{◌≡◌, ℕ, ◌<◌, ◌≤◌, Bool, true, ◌&&◌, ◌==◌, nat_lt, if◌then◌else◌, List, Option, Some, None, length, take}
 use Rattle.std.specs.List.{list_any}
-use Rattle.cl_model.specs.declared.model.SystemModel.{SystemModel}
+use Rattle.cl_model.specs.{declared.{model.SystemModel.SystemModel, refusal.{Code.TheVariants.{M31, M42}, Refusal.Refusal}, task.TaskDef.TaskDef}, ByNumber.{task_at, core_of}, Named.tasks_on, Refusals.each, ValidTasks.{task_key, priority_check, spans_too_many, is_outpaced_by}}
+use Rattle.cl_model.specs.ValidTasks.{deadline_check}
 use Rattle.cl_model.specs.declared.place.Key.TheVariants as key
-use Rattle.cl_model.specs.declared.refusal.Code.TheVariants.{M31, M42}
-use Rattle.cl_model.specs.declared.refusal.Refusal.{Refusal}
-use Rattle.cl_model.specs.declared.task.TaskDef.{TaskDef}
-use Rattle.cl_model.specs.ByNumber.{task_at, core_of}
-use Rattle.cl_model.specs.Named.{tasks_on}
-use Rattle.cl_model.specs.Refusals.{each}
-use Rattle.cl_model.specs.ValidTasks.{task_key, priority_check, spans_too_many, is_outpaced_by, deadline_check}
-use Rattle.cl_edit.specs.declared.pace.Pace.{Pace}
-use Rattle.cl_edit.specs.declared.pairs.PairFault.{PairFault}
-use Rattle.cl_edit.specs.declared.pairs.PairFault.TheVariants.{Clash, Outpaced}
-use Rattle.cl_edit.specs.Inner.Paces.{pace_of}
+use Rattle.cl_edit.specs.{declared.{pace.Pace.Pace, pairs.PairFault.{PairFault, TheVariants.{Clash, Outpaced}}}, Inner.Paces.pace_of}
 
 -- ---- pairs
 

@@ -2,8 +2,7 @@
 use Rattle.std.specs.Prelude.{◌≡◌, ℕ, ◌==◌, Option, Some, None, Result, Ok, Err, List, [], ◌∷◌}
 use Rattle.std.specs.List.{slice_split}
 use denote.Bor.{Bor}
-use Rattle.cl_edit.specs.declared.fault.Unread.{Unread}
-use Rattle.cl_edit.specs.declared.fault.Unread.TheVariants.{Bad, NoMemory}
+use Rattle.cl_edit.specs.declared.fault.Unread.{Unread, TheVariants.{Bad, NoMemory}}
 
 -- the parts of a text between separators
 unfoldable pub parts : (separator : ℕ) → (text : List ℕ) → List (List ℕ)

@@ -1,16 +1,8 @@
 -- Where tasks stand after one of them is moved: the first task that M31 or M34 refuses.
 use Rattle.std.specs.Prelude.{◌≡◌, ℕ, ◌<◌, Bool, true, ◌==◌, nat_lt, if◌then◌else◌, List, [], Option, Some, None, length, take}
-use Rattle.cl_model.specs.declared.limits.TheConstants.{MOST_TASKS_OF_CORE}
-use Rattle.cl_model.specs.declared.model.SystemModel.{SystemModel}
+use Rattle.cl_model.specs.{declared.{limits.TheConstants.MOST_TASKS_OF_CORE, model.SystemModel.SystemModel, refusal.{Code.TheVariants.{M31, M34}, Refusal.Refusal}}, ByNumber.task_at, Named.tasks_on, Refusals.{refuse, each}, ValidTasks.task_key}
 use Rattle.cl_model.specs.declared.place.Key.TheVariants as key
-use Rattle.cl_model.specs.declared.refusal.Code.TheVariants.{M31, M34}
-use Rattle.cl_model.specs.declared.refusal.Refusal.{Refusal}
-use Rattle.cl_model.specs.ByNumber.{task_at}
-use Rattle.cl_model.specs.Named.{tasks_on}
-use Rattle.cl_model.specs.Refusals.{refuse, each}
-use Rattle.cl_model.specs.ValidTasks.{task_key}
-use Rattle.cl_edit.specs.FewChecks.{place_refusals}
-use Rattle.cl_edit.specs.Inner.Pairs.{IsAtMost}
+use Rattle.cl_edit.specs.{FewChecks.place_refusals, Inner.Pairs.IsAtMost}
 
 -- M29, M31 and M34 for each task
 abbrev pub place_checks : SystemModel → List Refusal

@@ -1,19 +1,9 @@
 //! An edit of a valid model needs few checks: each law says which refusals the changed model has,
 //! in their order.
 ghost use Rattle.std.specs.Prelude.{◌≡◌, ◌<◌, ℕ, Bool, false, List, [], Option, length, All};
-ghost use Rattle.cl_model.specs.declared.chain.RequirementDef.{RequirementDef};
-ghost use Rattle.cl_model.specs.declared.changes.TaskPriority.{TaskPriority};
-ghost use Rattle.cl_model.specs.declared.group.Step.{Step};
-ghost use Rattle.cl_model.specs.declared.model.SystemModel.{SystemModel};
-ghost use Rattle.cl_model.specs.declared.stimulus.StimulusKind.{StimulusKind};
-ghost use Rattle.cl_model.specs.declared.task.AccessKind.{AccessKind};
-ghost use Rattle.cl_model.specs.Groups.{IsStepOf};
-ghost use Rattle.cl_model.specs.Named.{has_name, requirement_names};
-ghost use Rattle.cl_model.specs.Validity.{IsValid, requirement_check, refusals_of};
-ghost use Rattle.cl_edit.specs.declared.change.Change.TheVariants.{Requirement};
-ghost use Rattle.cl_edit.specs.Changing.{IsPriorityOf, IsChangeOf};
-ghost use Rattle.cl_model.specs.Changes.{with_range, with_whole, with_kind, with_deadline, with_priorities, with_place, with_access, with_requirement, with_new_requirement, without_requirement};
-ghost use Rattle.cl_edit.specs.FewChecks.{range_refusals, deadline_refusals, kind_refusals, priority_refusals, move_refusals};
+ghost use Rattle.cl_model.specs.{declared.{chain.RequirementDef.RequirementDef, changes.TaskPriority.TaskPriority, group.Step.Step, model.SystemModel.SystemModel, stimulus.StimulusKind.StimulusKind, task.AccessKind.AccessKind}, Groups.IsStepOf, Named.{has_name, requirement_names}};
+ghost use Rattle.cl_model.specs.{Validity.{IsValid, requirement_check, refusals_of}, Changes.{with_range, with_whole, with_kind, with_deadline, with_priorities, with_place, with_access, with_requirement, with_new_requirement, without_requirement}};
+ghost use Rattle.cl_edit.specs.{declared.change.Change.TheVariants.Requirement, Changing.{IsPriorityOf, IsChangeOf}, FewChecks.{range_refusals, deadline_refusals, kind_refusals, priority_refusals, move_refusals}};
 
 /// Where a runnable of a valid model gets other execution times, the changed model is refused
 /// exactly where the least exceeds the greatest (M36).

@@ -1,10 +1,6 @@
 //! What a change that adds or drops a task or a chain can break in a valid model.
 ghost use Rattle.std.specs.Prelude.{◌≡◌, ℕ, ◌<◌, length};
-ghost use Rattle.cl_model.specs.declared.chain.ChainDef.{ChainDef};
-ghost use Rattle.cl_model.specs.declared.model.SystemModel.{SystemModel};
-ghost use Rattle.cl_model.specs.declared.task.TaskDef.{TaskDef};
-ghost use Rattle.cl_model.specs.Changes.{with_new_task, without_task, with_new_chain, without_chain};
-ghost use Rattle.cl_model.specs.Validity.{IsValid, refusals_of};
+ghost use Rattle.cl_model.specs.{declared.{chain.ChainDef.ChainDef, model.SystemModel.SystemModel, task.TaskDef.TaskDef}, Changes.{with_new_task, without_task, with_new_chain, without_chain}, Validity.{IsValid, refusals_of}};
 ghost use Rattle.cl_edit.specs.FewListChecks.{new_task_checks, dropped_task_checks, new_chain_checks, dropped_chain_checks};
 
 /// Where a chain is added to a valid model, the refusals of the changed model are those of the

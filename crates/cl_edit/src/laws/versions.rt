@@ -1,10 +1,7 @@
 //! Lists of version 1 and of version 2.
 ghost use Rattle.std.specs.Prelude.{◌≡◌, ℕ, List, ◌++◌, codes};
 ghost use Rattle.cl_text.specs.Line.{line};
-ghost use Rattle.cl_edit.specs.declared.edit_lines.ListedEdit.{ListedEdit};
-ghost use Rattle.cl_edit.specs.declared.version.Version.TheVariants.{One};
-ghost use Rattle.cl_edit.specs.FirstLists.{IsFirstList};
-ghost use Rattle.cl_edit.specs.Reading.{AreEditsOf};
+ghost use Rattle.cl_edit.specs.{declared.{edit_lines.ListedEdit.ListedEdit, version.Version.TheVariants.One}, FirstLists.IsFirstList, Reading.AreEditsOf};
 
 /// A list of version 1 is its title and one line for each edit, each with its end. Nothing else
 /// stands in it, so that the lines are numbered from 2.

@@ -1,14 +1,8 @@
 -- What the search for an outcome leaves as it was, and why the outcome is what it is.
 use Rattle.std.specs.Prelude.{◌≡◌, ◌⊎◌, ℕ, List, None}
 use Rattle.cl_io.specs.Names.{SameAtEach}
-use Rattle.cl_engine.specs.declared.outcome.Outcome.{Outcome}
-use Rattle.cl_engine.specs.declared.status.TheConstants.{MODEL_REFUSED}
-use Rattle.cl_engine.specs.Calls.{ShelfCall}
-use Rattle.cl_engine.specs.Fetched.{StaysBeside, TellsFiles, SomeFile, FileRose, FileTooLong, NoneAfter}
-use Rattle.cl_engine.specs.Files.{File}
-use Rattle.cl_engine.specs.Language.{Language, files_of, limited_of, IsOfContent}
-use Rattle.cl_engine.specs.Outcome.{words_refused, read_fault, long_file}
-use Rattle.cl_engine.specs.Steps.{AreFewSteps}
+use Rattle.cl_engine.specs.{declared.{outcome.Outcome.Outcome, status.TheConstants.MODEL_REFUSED}, Calls.ShelfCall, Fetched.{StaysBeside, TellsFiles, SomeFile, FileRose, FileTooLong, NoneAfter}, Files.File, Language.{Language, files_of, limited_of, IsOfContent}, Outcome.words_refused}
+use Rattle.cl_engine.specs.{Outcome.{read_fault, long_file}, Steps.AreFewSteps}
 
 pub record LeavesRest {C : Type 0} (language : Language C) (words : List (List ℕ)) (shelf : ShelfCall) (steps steps_after : ℕ) : Type 0 where
   pub same : SameAtEach shelf.held shelf.held_after

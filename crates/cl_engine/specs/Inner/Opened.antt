@@ -1,25 +1,13 @@
 -- What the opening of a command's files gives: what they hold, or the outcome that stands in the place of what comes next.
 use Rattle.std.specs.Prelude.{◌≡◌, ◌≢◌, ℕ, List, Option, Some, None, Result, Ok, Err}
 use Rattle.cl_io.specs.Names.{SameAtEach}
-use Rattle.cl_model.specs.declared.model.SystemModel.{SystemModel}
-use Rattle.cl_model.specs.declared.refusal.Refusal.{Refusal}
-use Rattle.cl_model.specs.Reading.{model_of}
-use Rattle.cl_model.specs.Validity.{refusal_of}
-use Rattle.cl_engine.specs.declared.files.Files.{Files}
+use Rattle.cl_model.specs.{declared.{model.SystemModel.SystemModel, refusal.Refusal.Refusal}, Reading.model_of, Validity.refusal_of}
+use Rattle.cl_engine.specs.{declared.{files.{Files.Files, TheConstants.FILE_LIMIT}, outcome.Outcome.Outcome, opening.{FileFetch.FileFetch, OpenedModel.OpenedModel, Opened.Opened}}, Calls.{ShelfCall, StaysAt}, Content.{Content, Nothing, Bytes as Whole, Model, ModelAnd, content_of}}
+use Rattle.cl_engine.specs.{Content.{MeansModel, MeansNone}, Fetched.{Fetched, Bytes, Fault, TooLong, MayGive, EachFile, FileGave, WaitsForModel}, Files.{File, model_file, second_file, files_named, word}, Outcome.{OpensTo, Opens}}
 use Rattle.cl_engine.specs.declared.files.Files.TheVariants as files
-use Rattle.cl_engine.specs.declared.files.TheConstants.{FILE_LIMIT}
-use Rattle.cl_engine.specs.declared.outcome.Outcome.{Outcome}
-use Rattle.cl_engine.specs.declared.opening.FileFetch.{FileFetch}
 use Rattle.cl_engine.specs.declared.opening.FileFetch.TheVariants as fetch
-use Rattle.cl_engine.specs.declared.opening.OpenedModel.{OpenedModel}
 use Rattle.cl_engine.specs.declared.opening.OpenedModel.TheVariants as model_opened
-use Rattle.cl_engine.specs.declared.opening.Opened.{Opened}
 use Rattle.cl_engine.specs.declared.opening.Opened.TheVariants as opened
-use Rattle.cl_engine.specs.Calls.{ShelfCall, StaysAt}
-use Rattle.cl_engine.specs.Content.{Content, Nothing, Bytes as Whole, Model, ModelAnd, content_of, MeansModel, MeansNone}
-use Rattle.cl_engine.specs.Fetched.{Fetched, Bytes, Fault, TooLong, MayGive, EachFile, FileGave, WaitsForModel}
-use Rattle.cl_engine.specs.Files.{File, model_file, second_file, files_named, word}
-use Rattle.cl_engine.specs.Outcome.{OpensTo, Opens}
 
 -- a fetch, without where its bytes lie in memory
 abbrev pub given : FileFetch → Fetched

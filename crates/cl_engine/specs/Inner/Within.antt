@@ -1,8 +1,7 @@
 -- Answers of a fetch by the limit alone.
 use Rattle.std.specs.Prelude.{ℕ, ◌<◌, ◌≤◌, length, Result, Ok, Err, Vec}
 use Rattle.std.specs.declared.alloc.Global.{Global}
-use Rattle.cl_io.specs.declared.fault.FetchFault.{FetchFault}
-use Rattle.cl_io.specs.declared.fault.FetchFault.TheVariants.{Failed, Long, NoMemory}
+use Rattle.cl_io.specs.declared.fault.FetchFault.{FetchFault, TheVariants.{Failed, Long, NoMemory}}
 
 -- bytes are within the limit, and a length is past it
 abbrev pub IsWithin : (limit : ℕ) → Result (Vec ℕ Global) FetchFault → Type 0

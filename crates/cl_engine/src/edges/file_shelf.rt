@@ -1,10 +1,6 @@
 ghost use Rattle.std.specs.Prelude.{◌≡◌, List, ℕ, take, IfSome, IfOk, IfErr, IsErrAnd};
-ghost use Rattle.cl_io.specs.Counts.{counted, RisesAlone};
-ghost use Rattle.cl_io.specs.Names.{SameAtEach};
-ghost use Rattle.cl_io.specs.NameNumbers.{numbers_of, faults_of, longest_of, IsEntered};
-ghost use Rattle.cl_io.specs.Shelf.{Untold, MayAnswer};
-ghost use Rattle.cl_engine.specs.Edges.{IsFaultOfError, Settles, ReadsWithin};
-ghost use Rattle.cl_engine.specs.Inner.Within.{IsWithin};
+ghost use Rattle.cl_io.specs.{Counts.{counted, RisesAlone}, Names.SameAtEach, NameNumbers.{numbers_of, faults_of, longest_of, IsEntered}, Shelf.{Untold, MayAnswer}};
+ghost use Rattle.cl_engine.specs.{Edges.{IsFaultOfError, Settles, ReadsWithin}, Inner.Within.IsWithin};
 
 use cl_io::{FetchFault, NameNumbers, Shelf};
 use std::alloc::Global;

@@ -1,10 +1,7 @@
 -- What the code keeps of a group: when its jobs read and write, and how a chain goes from group to group. Times are in
 -- ticks.
 use Rattle.std.specs.Prelude.{◌≡◌, ℕ, zero, suc, ◌+◌, ◌-◌, ◌*◌, ◌/◌, ◌<◌, ◌≤◌, List, length, slice_index_or}
-use Rattle.cl_model.specs.declared.limits.TheConstants.{MOST_TICKS, MOST_STEPS}
-use Rattle.cl_model.specs.declared.group.Group.{Group}
-use Rattle.cl_model.specs.declared.stimulus.StimulusKind.TheVariants.{Periodic}
-use Rattle.cl_model.specs.Groups.{group_at}
+use Rattle.cl_model.specs.{declared.{limits.TheConstants.{MOST_TICKS, MOST_STEPS}, group.Group.Group, stimulus.StimulusKind.TheVariants.Periodic}, Groups.group_at}
 use Rattle.cl_runs.specs.TaskTiming.{Timing, System, timing_at}
 use Rattle.cl_exact.specs.declared.beat.Beat.{Beat}
 

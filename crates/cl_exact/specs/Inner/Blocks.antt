@@ -1,7 +1,6 @@
 -- The moments of many job chains at once. Times are in ticks.
 use Rattle.std.specs.Prelude.{◌≡◌, ℕ, ◌+◌, ◌*◌, ◌<◌, ◌≤◌, List, length, slice_index}
-use Rattle.cl_exact.specs.declared.beat.Beat.{Beat}
-use Rattle.cl_exact.specs.Inner.Beats.{beat_in, read_at, first_reader, forward_write, forward_start, forward_end}
+use Rattle.cl_exact.specs.{declared.beat.Beat.Beat, Inner.Beats.{beat_in, read_at, first_reader, forward_write, forward_start, forward_end}}
 
 -- moments that are looked at lie at or before this one: those of first jobs at or before the first number, and each hop
 -- adds less than a thousandth of it

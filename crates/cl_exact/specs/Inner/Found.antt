@@ -1,10 +1,6 @@
 -- What is found of a chain on the way to its exact lengths. Times are in ticks.
 use Rattle.std.specs.Prelude.{◌≡◌, ℕ, ◌+◌, ◌-◌, ◌<◌, ◌≤◌, List, length, slice_index}
-use Rattle.cl_exact.specs.declared.beat.Beat.{Beat}
-use Rattle.cl_exact.specs.declared.witness.Witness.{Witness}
-use Rattle.cl_exact.specs.Inner.Beats.{beat_in, read_at, write_at, forward_job, forward_start, forward_end, reaction_of}
-use Rattle.cl_exact.specs.Inner.Scans.{NoneHas}
-use Rattle.cl_exact.specs.Inner.Walks.{IsForwardWalk, IsBackwardWalk, start_up_of}
+use Rattle.cl_exact.specs.{declared.{beat.Beat.Beat, witness.Witness.Witness}, Inner.{Beats.{beat_in, read_at, write_at, forward_job, forward_start, forward_end, reaction_of}, Scans.NoneHas, Walks.{IsForwardWalk, IsBackwardWalk, start_up_of}}}
 
 -- the most ticks of a hyperperiod within the limit
 abbrev pub MOST_HYPERPERIOD : ℕ

@@ -2,13 +2,7 @@
 use Rattle.std.specs.Prelude.{◌≡◌, ℕ, ◌+◌, ◌-◌, ◌<◌, ◌≤◌, Option, List, length, take, slice_index, MatchOption}
 use Rattle.cl_model.specs.declared.group.Group.{Group}
 use Rattle.cl_runs.specs.TaskTiming.{System}
-use Rattle.cl_exact.specs.declared.beat.Beat.{Beat}
-use Rattle.cl_exact.specs.declared.fronts.Front.{Front}
-use Rattle.cl_exact.specs.declared.fronts.Scanned.{Scanned}
-use Rattle.cl_exact.specs.Hyperperiod.{IsWithinLimit, IsPastLimit}
-use Rattle.cl_exact.specs.Inner.Beats.{AreBeatsOf, beat_in, read_at, forward_write, forward_start, reaction_of}
-use Rattle.cl_exact.specs.Inner.Walks.{IsLatestSecond}
-use Rattle.cl_exact.specs.Inner.Periods.{IsLeastMultiple}
+use Rattle.cl_exact.specs.{declared.{beat.Beat.Beat, fronts.{Front.Front, Scanned.Scanned}}, Hyperperiod.{IsWithinLimit, IsPastLimit}, Inner.{Beats.{AreBeatsOf, beat_in, read_at, forward_write, forward_start, reaction_of}, Walks.IsLatestSecond, Periods.IsLeastMultiple}}
 use Rattle.cl_exact.specs.Inner.Found.{MOST_HYPERPERIOD, IsComplete}
 
 -- how long the chain of a first job lasts, up to the write of the group of a place

@@ -1,8 +1,7 @@
 -- Common multiples of the periods of beats. Times are in ticks.
 use Rattle.std.specs.Prelude.{ℕ, ◌<◌, ◌≤◌, List, length}
 use Rattle.std.specs.Int.{◌∣◌}
-use Rattle.cl_exact.specs.declared.beat.Beat.{Beat}
-use Rattle.cl_exact.specs.Inner.Beats.{beat_in}
+use Rattle.cl_exact.specs.{declared.beat.Beat.Beat, Inner.Beats.beat_in}
 
 -- the periods of the first beats divide it
 abbrev pub IsMultipleOfFirst : List Beat → (count ticks : ℕ) → Type 0

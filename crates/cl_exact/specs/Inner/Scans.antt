@@ -1,8 +1,6 @@
 -- The greatest reaction of many first jobs, and the first of them that has it. Times are in ticks.
 use Rattle.std.specs.Prelude.{◌≡◌, ℕ, ◌+◌, ◌<◌, ◌≤◌, List}
-use Rattle.cl_exact.specs.declared.beat.Beat.{Beat}
-use Rattle.cl_exact.specs.declared.scan.Greatest.{Greatest}
-use Rattle.cl_exact.specs.Inner.Beats.{reaction_of}
+use Rattle.cl_exact.specs.{declared.{beat.Beat.Beat, scan.Greatest.Greatest}, Inner.Beats.reaction_of}
 
 -- no reaction of `count` first jobs from `first` on is greater, none before the job is as great, and the job has it
 -- where there are any

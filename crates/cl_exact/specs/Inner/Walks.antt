@@ -1,7 +1,6 @@
 -- Job chains from one group to the next, and from which jobs on all tasks have begun. Times are in ticks.
 use Rattle.std.specs.Prelude.{◌≡◌, ℕ, suc, ◌+◌, ◌-◌, ◌<◌, ◌≤◌, List, length, slice_index, sum_by}
-use Rattle.cl_exact.specs.declared.beat.Beat.{Beat}
-use Rattle.cl_exact.specs.Inner.Beats.{beat_in, read_at, write_at, forward_job}
+use Rattle.cl_exact.specs.{declared.beat.Beat.Beat, Inner.Beats.{beat_in, read_at, write_at, forward_job}}
 
 -- the jobs of the forward chain from a first job
 pub record IsForwardWalk (beats : List Beat) (first : ℕ) (jobs : List ℕ) : Type 0 where
@@ -26,11 +25,6 @@ start_of beat = beat.offset + beat.period + beat.deadline
 
 abbrev pub start_up_of : List Beat → ℕ
 start_up_of beats = sum_by start_of beats
-
--- the job is the first that reads at or after a moment
-pub record IsFirstReadingJob (beat : Beat) (moment job : ℕ) : Type 0 where
-  pub after : moment ≤ read_at beat job
-  pub least : (other : ℕ) → moment ≤ read_at beat other → job ≤ other
 
 -- a moment by which job 1 of each group has arrived, and no later than it must be
 pub record IsLatestSecond (beats : List Beat) (moment : ℕ) : Type 0 where

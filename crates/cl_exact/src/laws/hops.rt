@@ -1,12 +1,8 @@
 //! Earliest readers and latest writers over ideal moments: each relation says the same as the
 //! other, seen from the other side.
 ghost use Rattle.std.specs.Prelude.{ℕ, suc, ◌-◌, ◌<◌, ◌≤◌, ◌↔◌, List, length, slice_index};
-ghost use Rattle.cl_model.specs.declared.group.Group.{Group};
-ghost use Rattle.cl_model.specs.Groups.{group_at};
-ghost use Rattle.cl_runs.specs.TaskTiming.{System, IsSound};
-ghost use Rattle.cl_runs.specs.Chains.{IsEarliestReader, IsLatestWriter, JobChain, first_job, last_job, IsForwardChain, AreBackwardLinks};
-ghost use Rattle.cl_runs.specs.RunChains.{ideal_moments};
-ghost use Rattle.cl_runs.specs.MomentOrder.{AreGroupsOf};
+ghost use Rattle.cl_model.specs.{declared.group.Group.Group, Groups.group_at};
+ghost use Rattle.cl_runs.specs.{TaskTiming.{System, IsSound}, Chains.{IsEarliestReader, IsLatestWriter, JobChain, first_job, last_job, IsForwardChain, AreBackwardLinks}, RunChains.ideal_moments, MomentOrder.AreGroupsOf};
 ghost use Rattle.cl_exact.specs.Hops.{HasNoWriter};
 
 /// Over ideal moments of neighbouring groups, the earliest reader of a writing job is at or before

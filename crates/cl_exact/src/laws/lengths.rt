@@ -1,19 +1,9 @@
 //! Exact lengths themselves: each chain of timed and periodic tasks has one of each kind, with one
 //! witness.
 ghost use Rattle.std.specs.Prelude.{◌≡◌, ◌⊎◌, ◌↔◌, ℕ, ◌<◌, ◌≤◌, true, List, length};
-ghost use Rattle.cl_model.specs.declared.model.SystemModel.{SystemModel};
-ghost use Rattle.cl_model.specs.Groups.{groups_at};
-ghost use Rattle.cl_model.specs.Validity.{IsValid};
-ghost use Rattle.cl_runs.specs.SystemOf.{system_of};
-ghost use Rattle.cl_exact.specs.TimedPeriodic.{are_timed_periodic, is_timed_periodic_chain};
-ghost use Rattle.cl_exact.specs.Ties.{AreTied, HasExactLengths};
-ghost use Rattle.cl_model.specs.declared.group.Group.{Group};
-ghost use Rattle.cl_runs.specs.TaskTiming.{System};
-ghost use Rattle.cl_runs.specs.Chains.{JobChain, first_job, last_job, IsForwardChain, IsAgeChain, IsReducedChain};
-ghost use Rattle.cl_runs.specs.RunChains.{ideal_moments};
-ghost use Rattle.cl_exact.specs.ExactLengths.{Witnesses, AreExactLengths, IsSteadyForward, IsSteadyAge, IsSteadyReduced};
-ghost use Rattle.cl_exact.specs.SteadyJobs.{first_steady_job, last_steady_job};
-ghost use Rattle.cl_exact.specs.Rhythms.{rhythms};
+ghost use Rattle.cl_model.specs.{declared.{model.SystemModel.SystemModel, group.Group.Group}, Groups.groups_at, Validity.IsValid};
+ghost use Rattle.cl_runs.specs.{SystemOf.system_of, TaskTiming.System, Chains.{JobChain, first_job, last_job, IsForwardChain, IsAgeChain, IsReducedChain}, RunChains.ideal_moments};
+ghost use Rattle.cl_exact.specs.{TimedPeriodic.{are_timed_periodic, is_timed_periodic_chain}, Ties.{AreTied, HasExactLengths}, ExactLengths.{Witnesses, AreExactLengths, IsSteadyForward, IsSteadyAge, IsSteadyReduced}, SteadyJobs.{first_steady_job, last_steady_job}, Rhythms.rhythms};
 ghost use Rattle.cl_exact.specs.Hyperperiod.{hyper_limit, IsHyperperiod, IsWithinLimit, IsPastLimit};
 
 /// A chain has at most one exact length of each kind, with one witness.

@@ -1,18 +1,9 @@
 //! Chains of timed and periodic tasks in legal runs, where none of the tasks is late: they read and
 //! write at their ideal moments, so their exact lengths are the greatest over all legal runs.
 ghost use Rattle.std.specs.Prelude.{◌≡◌, ℕ, true, List, All};
-ghost use Rattle.cl_model.specs.declared.group.Group.{Group};
-ghost use Rattle.cl_model.specs.declared.model.SystemModel.{SystemModel};
-ghost use Rattle.cl_model.specs.Groups.{groups_at};
-ghost use Rattle.cl_model.specs.Validity.{IsValid};
-ghost use Rattle.cl_runs.specs.TaskTiming.{System, IsSound};
-ghost use Rattle.cl_runs.specs.SystemOf.{system_of};
-ghost use Rattle.cl_runs.specs.Run.{Run};
-ghost use Rattle.cl_runs.specs.Legal.{IsLegal};
-ghost use Rattle.cl_exact.specs.TimedPeriodic.{is_timed_periodic_chain};
-ghost use Rattle.cl_exact.specs.ExactLengths.{Witnesses, AreExactLengths};
-ghost use Rattle.cl_exact.specs.RunPromises.{HaveResponses, IsSettledTimedChain, IsIdealUntilTheEnd, AreIdealUntilTheEnd};
-ghost use Rattle.cl_exact.specs.RunPromises.{AreExactInRuns, HasWitnessRun};
+ghost use Rattle.cl_model.specs.{declared.{group.Group.Group, model.SystemModel.SystemModel}, Groups.groups_at, Validity.IsValid};
+ghost use Rattle.cl_runs.specs.{TaskTiming.{System, IsSound}, SystemOf.system_of, Run.Run, Legal.IsLegal};
+ghost use Rattle.cl_exact.specs.{TimedPeriodic.is_timed_periodic_chain, ExactLengths.{Witnesses, AreExactLengths}, RunPromises.{HaveResponses, IsSettledTimedChain, IsIdealUntilTheEnd, AreIdealUntilTheEnd, AreExactInRuns, HasWitnessRun}};
 
 /// A chain of a valid model whose tasks are all timed and periodic, and none of them late, is a
 /// settled timed chain.

@@ -1,14 +1,8 @@
 //! The first jobs of one hyperperiod show all lengths.
 ghost use Rattle.std.specs.Prelude.{◌≡◌, ℕ, ◌<◌, ◌≤◌, true, length};
-ghost use Rattle.cl_model.specs.declared.model.SystemModel.{SystemModel};
-ghost use Rattle.cl_model.specs.Groups.{groups_at};
-ghost use Rattle.cl_model.specs.Validity.{IsValid};
-ghost use Rattle.cl_runs.specs.SystemOf.{system_of};
-ghost use Rattle.cl_runs.specs.Chains.{JobChain};
-ghost use Rattle.cl_exact.specs.TimedPeriodic.{is_timed_periodic_chain};
-ghost use Rattle.cl_exact.specs.Hyperperiod.{IsMultipleOfPeriods};
-ghost use Rattle.cl_exact.specs.ExactLengths.{IsSteadyForward};
-ghost use Rattle.cl_exact.specs.Turns.{HasEarlyTwin};
+ghost use Rattle.cl_model.specs.{declared.model.SystemModel.SystemModel, Groups.groups_at, Validity.IsValid};
+ghost use Rattle.cl_runs.specs.{SystemOf.system_of, Chains.JobChain};
+ghost use Rattle.cl_exact.specs.{TimedPeriodic.is_timed_periodic_chain, Hyperperiod.IsMultipleOfPeriods, ExactLengths.IsSteadyForward, Turns.HasEarlyTwin};
 
 /// Where the tasks of a chain of a valid model are all timed and periodic, each forward chain that
 /// counts for its exact reaction is as long as one that begins less than a hyperperiod, or any

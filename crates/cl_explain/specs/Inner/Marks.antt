@@ -1,8 +1,7 @@
 -- The labels that some runnables read and write, as marks.
 use Rattle.std.specs.Prelude.{◌≡◌, ℕ, ◌||◌, List}
 use Rattle.std.specs.List.{list_any}
-use Rattle.cl_model.specs.declared.task.RunnableDef.{RunnableDef}
-use Rattle.cl_model.specs.Named.{has_name}
+use Rattle.cl_model.specs.{declared.task.RunnableDef.RunnableDef, Named.has_name}
 use Rattle.cl_explain.specs.declared.labels.Marks.{Marks}
 
 -- the marks hold the names that these runnables read and write

@@ -1,8 +1,7 @@
 -- A job that is drawn once it is known when it arrives.
 use Rattle.std.specs.Prelude.{ℕ, ◌+◌, List}
 use Rattle.cl_model.specs.declared.stimulus.StimulusKind.{StimulusKind}
-use Rattle.cl_runs.specs.declared.job.Job.{Job}
-use Rattle.cl_runs.specs.TaskTiming.{TimeRange}
+use Rattle.cl_runs.specs.{declared.job.Job.Job, TaskTiming.TimeRange}
 use Rattle.cl_gen.specs.Drawn.{release_words, release_delay, drawn_times}
 
 -- word n is the next one

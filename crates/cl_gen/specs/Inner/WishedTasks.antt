@@ -1,8 +1,6 @@
 -- The jobs of one task in a table of some cores.
 use Rattle.std.specs.Prelude.{◌≡◌, ℕ, Bool, true, false, List, []}
-use Rattle.cl_runs.specs.declared.job.Job.{Job}
-use Rattle.cl_runs.specs.TaskTiming.{Timing}
-use Rattle.cl_runs.specs.Table.{AreLawfulJobs}
+use Rattle.cl_runs.specs.{declared.job.Job.Job, TaskTiming.Timing, Table.AreLawfulJobs}
 use Rattle.cl_run_data.specs.Parts.{is_among}
 
 -- lawful jobs if the core of the task is among these, and none else

@@ -1,15 +1,10 @@
 -- What is kept of the findings of a model where another follows it.
 use Rattle.std.specs.Prelude.{◌≡◌, ◌≢◌, ℕ, Option, Some, None}
-use Rattle.cl_model.specs.declared.model.SystemModel.{SystemModel}
-use Rattle.cl_model.specs.ByNumber.{chain_at}
-use Rattle.cl_runs.specs.SystemOf.{system_of}
-use Rattle.cl_runs.specs.TaskTiming.{timing_at}
-use Rattle.cl_bound.specs.declared.answer.TaskAnswer.{TaskAnswer}
-use Rattle.cl_bound.specs.Answers.{answer_to}
+use Rattle.cl_model.specs.{declared.model.SystemModel.SystemModel, ByNumber.chain_at}
+use Rattle.cl_runs.specs.{SystemOf.system_of, TaskTiming.timing_at}
+use Rattle.cl_bound.specs.{declared.answer.TaskAnswer.TaskAnswer, Answers.answer_to}
 use Rattle.cl_analyse.specs.ChainAnswers.{chain_answer_of, IsExactAnswer}
-use Rattle.cl_incr.specs.declared.chains.ChainFindings.{ChainFindings}
-use Rattle.cl_incr.specs.Questions.{ChainQuestion, chain_question}
-use Rattle.cl_incr.specs.Changed.{IsChangedTask, IsChangedChain}
+use Rattle.cl_incr.specs.{declared.chains.ChainFindings.ChainFindings, Questions.{ChainQuestion, chain_question}, Changed.{IsChangedTask, IsChangedChain}}
 
 -- an answer that is kept is that for the task of the new model; none is where its question is changed
 abbrev pub IsKeptTask : (old new : SystemModel) → (task : ℕ) → Option TaskAnswer → Type 0

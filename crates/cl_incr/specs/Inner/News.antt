@@ -1,18 +1,10 @@
 -- What is found anew where an edit reaches some tasks.
 use Rattle.std.specs.Prelude.{◌≡◌, ℕ, ◌<◌, ◌⊎◌, List, length, map, All, Contains}
 use Rattle.cl_model.specs.declared.model.SystemModel.{SystemModel}
-use Rattle.cl_runs.specs.SystemOf.{system_of}
-use Rattle.cl_runs.specs.Requirements.{required_chain, requirement_at}
-use Rattle.cl_bound.specs.Answers.{answers_of}
-use Rattle.cl_bound.specs.Bounds.{Lengths}
-use Rattle.cl_analyse.specs.declared.findings.ChainAnswer.{ChainAnswer}
-use Rattle.cl_analyse.specs.declared.findings.ChainAnswer.TheVariants.{Bounds}
-use Rattle.cl_incr.specs.declared.chains.ChainFindings.{ChainFindings}
-use Rattle.cl_incr.specs.declared.news.FoundChain.{FoundChain}
-use Rattle.cl_incr.specs.declared.news.News.{News}
-use Rattle.cl_incr.specs.declared.shift.Shift.{Shift}
-use Rattle.cl_incr.specs.declared.shift.Shift.TheVariants.{Stays, At}
-use Rattle.cl_incr.specs.Inner.Kept.{AreFoundOf}
+use Rattle.cl_runs.specs.{SystemOf.system_of, Requirements.{required_chain, requirement_at}}
+use Rattle.cl_bound.specs.{Answers.answers_of, Bounds.Lengths}
+use Rattle.cl_analyse.specs.declared.findings.ChainAnswer.{ChainAnswer, TheVariants.Bounds}
+use Rattle.cl_incr.specs.{declared.{chains.ChainFindings.ChainFindings, news.{FoundChain.FoundChain, News.News}, shift.Shift.{Shift, TheVariants.{Stays, At}}}, Inner.Kept.AreFoundOf}
 
 -- the numbers of the chains of which something is found
 abbrev pub chains_found : List FoundChain → List ℕ

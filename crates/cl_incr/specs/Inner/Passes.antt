@@ -1,11 +1,8 @@
 -- Which chains pass each task, and which requirements name each chain.
 use Rattle.std.specs.Prelude.{ℕ, ◌<◌, ◌≡◌, List, length, All, Contains}
-use Rattle.cl_model.specs.declared.model.SystemModel.{SystemModel}
-use Rattle.cl_model.specs.declared.group.Group.{Group}
-use Rattle.cl_model.specs.Groups.{groups_at}
+use Rattle.cl_model.specs.{declared.{model.SystemModel.SystemModel, group.Group.Group}, Groups.groups_at}
 use Rattle.cl_runs.specs.Requirements.{required_chain, requirement_at}
-use Rattle.cl_incr.specs.Inner.Listed.{listed, AreListedBelow}
-use Rattle.cl_incr.specs.declared.passing.Passing.{Passing}
+use Rattle.cl_incr.specs.{Inner.Listed.{listed, AreListedBelow}, declared.passing.Passing.Passing}
 
 -- a chain is listed under each task that it passes
 abbrev pub IsListedAlong : SystemModel → (lists : List (List ℕ)) → (chain : ℕ) → Type 0

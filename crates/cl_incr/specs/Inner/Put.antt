@@ -1,10 +1,7 @@
 -- What stands in the lists of what is found of chains, once some of it is put anew.
 use Rattle.std.specs.Prelude.{◌≡◌, ℕ, ◌⊎◌, List, length, map, Contains}
-use Rattle.cl_analyse.specs.declared.findings.ChainAnswer.{ChainAnswer}
-use Rattle.cl_analyse.specs.declared.findings.ExactAnswer.{ExactAnswer}
-use Rattle.cl_analyse.specs.ChainAnswers.{chain_answer_at, exact_answer_at}
-use Rattle.cl_incr.specs.declared.chains.ChainFindings.{ChainFindings}
-use Rattle.cl_incr.specs.declared.news.FoundChain.{FoundChain}
+use Rattle.cl_analyse.specs.{declared.findings.{ChainAnswer.ChainAnswer, ExactAnswer.ExactAnswer}, ChainAnswers.{chain_answer_at, exact_answer_at}}
+use Rattle.cl_incr.specs.declared.{chains.ChainFindings.ChainFindings, news.FoundChain.FoundChain}
 
 -- what stands of a chain in the lists
 abbrev pub found_at : List ChainAnswer → List ExactAnswer → (chain : ℕ) → ChainFindings

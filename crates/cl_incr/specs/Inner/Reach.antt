@@ -1,22 +1,12 @@
 -- What an edit reaches: the timings and the questions of tasks, whose numbers may move; a task or a chain that is added
 -- behind the others or taken out; requirements.
 use Rattle.std.specs.Prelude.{◌≡◌, ℕ, ◌+◌, ◌<◌, ◌⊎◌, List, [], ◌∷◌, length, map, All, Contains}
-use Rattle.cl_model.specs.declared.model.SystemModel.{SystemModel}
-use Rattle.cl_model.specs.ByNumber.{core_of}
-use Rattle.cl_model.specs.Groups.{groups_at}
-use Rattle.cl_runs.specs.SystemOf.{system_of}
-use Rattle.cl_runs.specs.TaskTiming.{timing_at}
+use Rattle.cl_model.specs.{declared.model.SystemModel.SystemModel, ByNumber.core_of, Groups.groups_at}
+use Rattle.cl_runs.specs.{SystemOf.system_of, TaskTiming.timing_at}
 use Rattle.cl_bound.specs.Answers.{answers_of, answer_at}
 use Rattle.cl_analyse.specs.Headline.{question_at}
-use Rattle.cl_incr.specs.declared.chains.ChainFindings.{ChainFindings}
-use Rattle.cl_incr.specs.declared.reach.Reach.{Reach}
-use Rattle.cl_incr.specs.declared.reach.Reach.TheVariants.{Timings, Task, NewChain, Chain, Requirements}
-use Rattle.cl_incr.specs.declared.reach.Reached.{Reached}
-use Rattle.cl_incr.specs.declared.shift.Shift.{Shift}
-use Rattle.cl_incr.specs.declared.shift.Shift.TheVariants.{At}
-use Rattle.cl_incr.specs.Touched.{KeepsChains, Touches}
-use Rattle.cl_incr.specs.Inner.Kept.{AreFoundOf}
-use Rattle.cl_incr.specs.Inner.Shift.{number_before, task_before, shifted_count, group_before}
+use Rattle.cl_incr.specs.{declared.{chains.ChainFindings.ChainFindings, reach.{Reach.{Reach, TheVariants.{Timings, Task, NewChain, Chain, Requirements}}, Reached.Reached}, shift.Shift.{Shift, TheVariants.At}}, Touched.{KeepsChains, Touches}, Inner.{Kept.AreFoundOf, Shift.number_before}}
+use Rattle.cl_incr.specs.Inner.Shift.{task_before, shifted_count, group_before}
 
 -- ---- a task under its number before
 

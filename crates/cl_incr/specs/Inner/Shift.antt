@@ -2,8 +2,7 @@
 -- move up.
 use Rattle.std.specs.Prelude.{ℕ, ◌+◌, ◌-◌, nat_lt, if◌then◌else◌, List, [], ◌∷◌, ◌++◌, remove, length}
 use Rattle.cl_model.specs.declared.group.Group.{Group}
-use Rattle.cl_incr.specs.declared.shift.Shift.{Shift}
-use Rattle.cl_incr.specs.declared.shift.Shift.TheVariants.{Stays, At}
+use Rattle.cl_incr.specs.declared.shift.Shift.{Shift, TheVariants.{Stays, At}}
 
 -- ---- around a number
 

@@ -1,8 +1,7 @@
 -- What is handed out of content in memory.
 use Rattle.std.specs.Prelude.{◌≡◌, ℕ, ◌<◌, ◌≤◌, max, List, length, Result, Ok, Err, Vec}
 use Rattle.std.specs.declared.alloc.Global.{Global}
-use Rattle.cl_io.specs.declared.fault.FetchFault.{FetchFault}
-use Rattle.cl_io.specs.declared.fault.FetchFault.TheVariants.{Failed, Long, NoMemory}
+use Rattle.cl_io.specs.declared.fault.FetchFault.{FetchFault, TheVariants.{Failed, Long, NoMemory}}
 
 -- the content itself, or how long it is where that is past the limit; `before` and `after` are the most bytes that one
 -- fetch took

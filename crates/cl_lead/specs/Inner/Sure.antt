@@ -1,21 +1,12 @@
 -- What runs ahead of a runnable as the code holds it, and how its lead is raised. Times are in
 -- ticks.
 use Rattle.std.specs.Prelude.{◌≡◌, ℕ, suc, pos, ◌-ℤ◌, ◌+ℤ◌, ◌≤ℤ◌, ◌+◌, ◌-◌, ◌*◌, ◌<◌, ◌≤◌, ◌⊎◌, ◌&&◌, Bool, false, true, cond, nat_lt, List, sum_by, All, Option, Some, None}
-use Rattle.cl_model.specs.declared.limits.TheConstants.{MOST_TICKS, MOST_RUNNABLES}
-use Rattle.cl_model.specs.declared.model.SystemModel.{SystemModel}
-use Rattle.cl_model.specs.ByNumber.{task_at, stimulus_of}
-use Rattle.cl_runs.specs.SystemOf.{system_of}
-use Rattle.cl_runs.specs.TaskTiming.{timing_at}
-use Rattle.cl_stim.specs.declared.phase.Phase.{Phase}
-use Rattle.cl_stim.specs.Phase.{IsPhaseInRange, arrives_at, last_arrival}
-use Rattle.cl_cycle.specs.declared.cycle.TheConstants.{MOST_IN_CYCLE}
+use Rattle.cl_model.specs.{declared.{limits.TheConstants.{MOST_TICKS, MOST_RUNNABLES}, model.SystemModel.SystemModel}, ByNumber.{task_at, stimulus_of}}
+use Rattle.cl_runs.specs.{SystemOf.system_of, TaskTiming.timing_at}
+use Rattle.cl_stim.specs.{declared.phase.Phase.Phase, Phase.{IsPhaseInRange, arrives_at, last_arrival}}
+use Rattle.cl_cycle.specs.{declared.cycle.TheConstants.MOST_IN_CYCLE, Counts.arrivals_from, Cycles.is_one_of}
 use Rattle.cl_comm.specs.Windows.{least_times}
-use Rattle.cl_cycle.specs.Counts.{arrivals_from}
-use Rattle.cl_cycle.specs.Cycles.{is_one_of}
-use Rattle.cl_lead.specs.declared.sure.SureTask.{SureTask}
-use Rattle.cl_lead.specs.declared.sure.SureWork.{SureWork}
-use Rattle.cl_lead.specs.Ahead.{Ahead, MayStartAt}
-use Rattle.cl_lead.specs.Leads.{surely_released}
+use Rattle.cl_lead.specs.{declared.sure.{SureTask.SureTask, SureWork.SureWork}, Ahead.{Ahead, MayStartAt}, Leads.surely_released}
 
 -- how long the jobs of a task run at least that are surely released from a moment on, up to so many
 -- ticks later

@@ -1,25 +1,13 @@
 -- How a margin is searched for.
 use Rattle.std.specs.Prelude.{◌≡◌, ℕ, ◌<◌, ◌≤◌, Bool, true, false, not, List, length, MatchBool}
-use Rattle.cl_model.specs.declared.model.SystemModel.{SystemModel}
-use Rattle.cl_model.specs.Ranges.{IsInRange}
-use Rattle.cl_runs.specs.Requirements.{requirement_at, required_chain}
-use Rattle.cl_runs.specs.SystemOf.{system_of}
+use Rattle.cl_model.specs.{declared.model.SystemModel.SystemModel, Ranges.IsInRange}
+use Rattle.cl_runs.specs.{Requirements.{requirement_at, required_chain}, SystemOf.system_of}
 use Rattle.cl_bound.specs.Answers.{answer_at, is_late}
-use Rattle.cl_analyse.specs.declared.findings.ChainAnswer.{ChainAnswer}
-use Rattle.cl_analyse.specs.declared.findings.ChainAnswer.TheVariants.{Bounds, Late}
-use Rattle.cl_analyse.specs.ChainAnswers.{chain_answer_at}
-use Rattle.cl_tight.specs.TightAnswers.{tight_answers_of}
-use Rattle.cl_tight.specs.TightFindings.{tight_chain_answers_of, tight_findings_of}
+use Rattle.cl_analyse.specs.{declared.findings.ChainAnswer.{ChainAnswer, TheVariants.{Bounds, Late}}, ChainAnswers.chain_answer_at}
+use Rattle.cl_tight.specs.{TightAnswers.tight_answers_of, TightFindings.{tight_chain_answers_of, tight_findings_of}}
 use Rattle.cl_tune.specs.declared.percent.TheConstants.{MOST_PERCENT}
-use Rattle.cl_margin.specs.declared.allowed.Allowed.{Allowed}
-use Rattle.cl_margin.specs.declared.searching.Item.{Item}
-use Rattle.cl_margin.specs.declared.searching.Item.TheVariants.{Task, Chain}
-use Rattle.cl_margin.specs.declared.searching.Search.{Search}
-use Rattle.cl_margin.specs.declared.whose.Whose.{Whose}
-use Rattle.cl_margin.specs.Grown.{grown}
-use Rattle.cl_margin.specs.Margins.{is_met_task, is_met_requirement, KeepsMet}
-use Rattle.cl_margin.specs.Inner.Allowing.{any_allowed, most_bounds, allows, allows_answer, allowed_at}
-use Rattle.cl_margin.specs.Inner.Trials.{IsTrialAt}
+use Rattle.cl_margin.specs.{declared.{allowed.Allowed.Allowed, searching.{Item.{Item, TheVariants.{Task, Chain}}, Search.Search}, whose.Whose.Whose}, Grown.grown, Margins.{is_met_task, is_met_requirement, KeepsMet}, Inner.Allowing.{any_allowed, most_bounds, allows, allows_answer}}
+use Rattle.cl_margin.specs.Inner.{Allowing.allowed_at, Trials.IsTrialAt}
 
 -- something is asked of a task or of a chain of the model
 abbrev pub IsItemOf : SystemModel → Item → Type 0

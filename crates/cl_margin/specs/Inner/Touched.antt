@@ -1,18 +1,9 @@
 -- What may change as greatest execution times grow.
 use Rattle.std.specs.Prelude.{ℕ, ◌<◌, ◌≤◌, ◌==◌, ◌&&◌, ◌||◌, Bool, true, nat_le, length}
 use Rattle.std.specs.List.{list_all, list_any}
-use Rattle.cl_model.specs.declared.group.Group.{Group}
-use Rattle.cl_model.specs.declared.limits.TheConstants.{MOST_TICKS}
-use Rattle.cl_model.specs.declared.model.SystemModel.{SystemModel}
-use Rattle.cl_model.specs.declared.task.RunnableDef.{RunnableDef}
-use Rattle.cl_model.specs.declared.task.TaskDef.{TaskDef}
-use Rattle.cl_model.specs.ByNumber.{task_at, core_of}
-use Rattle.cl_model.specs.Groups.{groups_at}
-use Rattle.cl_model.specs.Ranges.{IsInRange}
+use Rattle.cl_model.specs.{declared.{group.Group.Group, limits.TheConstants.MOST_TICKS, model.SystemModel.SystemModel, task.{RunnableDef.RunnableDef, TaskDef.TaskDef}}, ByNumber.{task_at, core_of}, Groups.groups_at, Ranges.IsInRange}
 use Rattle.cl_tune.specs.declared.percent.TheConstants.{MOST_PERCENT}
-use Rattle.cl_margin.specs.declared.whose.Whose.{Whose}
-use Rattle.cl_margin.specs.declared.whose.Whose.TheVariants.{EveryTask, OneTask}
-use Rattle.cl_margin.specs.Grown.{grown, grown_greatest}
+use Rattle.cl_margin.specs.{declared.whose.Whose.{Whose, TheVariants.{EveryTask, OneTask}}, Grown.{grown, grown_greatest}}
 
 -- a runnable of a task runs whole
 abbrev pub has_whole : TaskDef → Bool

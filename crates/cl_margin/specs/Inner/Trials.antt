@@ -1,28 +1,12 @@
 -- A model whose times have grown, and what has been found of it.
 use Rattle.std.specs.Prelude.{◌≡◌, ℕ, ◌==◌, ◌&&◌, Bool, true, false, nat_lt, if◌then◌else◌, List, length, IsPermutation, slice_get, slice_index_or, slice_set, Option, Some, None}
 use Rattle.std.specs.List.{range_with_len}
-use Rattle.cl_model.specs.declared.group.Group.{Group}
-use Rattle.cl_model.specs.declared.model.SystemModel.{SystemModel}
-use Rattle.cl_model.specs.Validity.{IsValid}
-use Rattle.cl_runs.specs.SystemOf.{system_of}
-use Rattle.cl_runs.specs.TaskTiming.{System}
-use Rattle.cl_cycle.specs.declared.cycle.Cycle.{Cycle}
-use Rattle.cl_cycle.specs.Promises.{IsCycleOf}
-use Rattle.cl_bound.specs.declared.answer.TaskAnswer.{TaskAnswer}
-use Rattle.cl_bound.specs.declared.group_timing.GroupTiming.{GroupTiming}
-use Rattle.cl_bound.specs.Answers.{answer_at, is_late}
-use Rattle.cl_bound.specs.Hops.{IsNear}
-use Rattle.cl_tight.specs.declared.findings.TightFindings.{TightFindings}
-use Rattle.cl_tight.specs.Found.{number_found, AreWindowsOf}
-use Rattle.cl_tight.specs.TightAnswers.{tight_answers_of}
-use Rattle.cl_tight.specs.TightFindings.{tight_findings_of}
-use Rattle.cl_tight.specs.TightTimings.{tight_timing}
-use Rattle.cl_margin.specs.declared.allowed.Allowed.{Allowed}
-use Rattle.cl_margin.specs.declared.trial.Trial.{Trial}
-use Rattle.cl_margin.specs.declared.whose.Whose.{Whose}
-use Rattle.cl_margin.specs.Grown.{grown}
-use Rattle.cl_margin.specs.Inner.Allowing.{AreAllowed}
-use Rattle.cl_margin.specs.Inner.Touched.{touches}
+use Rattle.cl_model.specs.{declared.{group.Group.Group, model.SystemModel.SystemModel}, Validity.IsValid}
+use Rattle.cl_runs.specs.{SystemOf.system_of, TaskTiming.System}
+use Rattle.cl_cycle.specs.{declared.cycle.Cycle.Cycle, Promises.IsCycleOf}
+use Rattle.cl_bound.specs.{declared.{answer.TaskAnswer.TaskAnswer, group_timing.GroupTiming.GroupTiming}, Answers.{answer_at, is_late}, Hops.IsNear}
+use Rattle.cl_tight.specs.{declared.findings.TightFindings.TightFindings, Found.{number_found, AreWindowsOf}, TightAnswers.tight_answers_of, TightFindings.tight_findings_of, TightTimings.tight_timing}
+use Rattle.cl_margin.specs.{declared.{allowed.Allowed.Allowed, trial.Trial.Trial, whose.Whose.Whose}, Grown.grown, Inner.{Allowing.AreAllowed, Touched.touches}}
 
 -- each answer that has been found of a task is the one by phases
 abbrev pub AreFoundAnswers : System → List (Option TaskAnswer) → Type 0

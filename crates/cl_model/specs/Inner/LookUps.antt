@@ -1,20 +1,9 @@
 -- What a valid model keeps beside the plain one, so that it answers in constant time.
 use Rattle.std.specs.Prelude.{◌≡◌, ℕ, ◌<◌, nat_lt, List, [], ◌∷◌, ◌++◌, length, map, count_by, remove, insert, slice_index, slice_index_or, slice_set}
 use Rattle.std.specs.List.{range_with_len}
-use Rattle.cl_model.specs.declared.chain.ChainDef.{ChainDef}
-use Rattle.cl_model.specs.declared.look_ups.LookUps.{LookUps}
-use Rattle.cl_model.specs.declared.look_ups.SectionNames.{SectionNames}
-use Rattle.cl_model.specs.declared.look_ups.TaskTables.{TaskTables}
-use Rattle.cl_model.specs.declared.model.SystemModel.{SystemModel}
-use Rattle.cl_model.specs.declared.task.TaskDef.{TaskDef}
-use Rattle.cl_model.specs.declared.valid_model.ValidModel.TheInside.{Inside}
-use Rattle.cl_model.specs.Groups.{groups, groups_of}
-use Rattle.cl_model.specs.Named.{core_names, stimulus_names, task_names, chain_names, requirement_names}
-use Rattle.cl_model.specs.NameSets.{names_with}
-use Rattle.cl_model.specs.ByNumber.{core_number, stimulus_number, greatest_time, tasks_of_core}
-use Rattle.cl_model.specs.Inner.StepTable.{step_in, AreStepsOf, StepsAdded, StepsDropped}
-use Rattle.cl_model.specs.TaskNumbers.{number_without, group_without}
-use Rattle.cl_model.specs.Validity.{IsValid}
+use Rattle.cl_model.specs.{declared.{chain.ChainDef.ChainDef, look_ups.{LookUps.LookUps, SectionNames.SectionNames, TaskTables.TaskTables}, model.SystemModel.SystemModel, task.TaskDef.TaskDef, valid_model.ValidModel.TheInside.Inside}, Groups.{groups, groups_of}, Named.core_names}
+use Rattle.cl_model.specs.{Named.{stimulus_names, task_names, chain_names, requirement_names}, NameSets.names_with, ByNumber.{core_number, stimulus_number, greatest_time, tasks_of_core}, Inner.StepTable.{step_in, AreStepsOf, StepsAdded, StepsDropped}, TaskNumbers.number_without}
+use Rattle.cl_model.specs.{TaskNumbers.group_without, Validity.IsValid}
 
 -- the names are those of the entries of each section
 pub record AreNamesOf (model : SystemModel) (kept : SectionNames) : Type 0 where

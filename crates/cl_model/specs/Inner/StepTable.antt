@@ -2,12 +2,7 @@
 -- them.
 use Rattle.std.specs.Prelude.{◌≡◌, ℕ, ◌+◌, ◌≤◌, List, [], ◌∷◌, ◌++◌, length, map, slice_index_or, unwrap_or}
 use Rattle.std.specs.List.{range_with_len, remove_range}
-use Rattle.cl_model.specs.declared.group.Step.{Step}
-use Rattle.cl_model.specs.declared.groups.StepTable.{StepTable}
-use Rattle.cl_model.specs.declared.task.TaskDef.{TaskDef}
-use Rattle.cl_model.specs.Groups.{no_step}
-use Rattle.cl_model.specs.Named.{index_of, runnable_names, all_runnables}
-use Rattle.cl_model.specs.TaskNumbers.{step_without}
+use Rattle.cl_model.specs.{declared.{group.Step.Step, groups.StepTable.StepTable, task.TaskDef.TaskDef}, Groups.no_step, Named.{index_of, runnable_names, all_runnables}, TaskNumbers.step_without}
 
 -- the steps of the runnables of one task, which are so many
 abbrev pub steps_in : (task count : ℕ) → List Step

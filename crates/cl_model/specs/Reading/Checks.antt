@@ -4,13 +4,7 @@ use Rattle.std.specs.Prelude.{ℕ, ℤ, pos, negsuc, Bool, true, false, ◌&&◌
 use Rattle.std.specs.List.{list_any}
 use Rattle.std.specs.Str.{bytes_eq}
 use Rattle.toml.specs.Data.{Data, string, integer, boolean, array, table, Items, no_items, item, Members, no_members, member, get_member}
-use Rattle.cl_model.specs.declared.place.Key.{Key}
-use Rattle.cl_model.specs.declared.place.Place.{Place}
-use Rattle.cl_model.specs.declared.refusal.Code.TheVariants.{M4, M5, M6, M7, M8, M9, M10}
-use Rattle.cl_model.specs.declared.refusal.Refusal.{Refusal}
-use Rattle.cl_model.specs.Name.{is_name}
-use Rattle.cl_model.specs.Place.{key_text, at_key, at_spot}
-use Rattle.cl_model.specs.Refusals.{refuse, unless, in_order, each_from}
+use Rattle.cl_model.specs.{declared.{place.{Key.Key, Place.Place}, refusal.{Code.TheVariants.{M4, M5, M6, M7, M8, M9, M10}, Refusal.Refusal}}, Name.is_name, Place.{key_text, at_key, at_spot}, Refusals.{refuse, unless, in_order, each_from}}
 
 -- the checks of one value, at its place
 abbrev pub Check : Type 0

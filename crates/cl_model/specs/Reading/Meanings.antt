@@ -1,8 +1,7 @@
 -- What the values of a model file mean where nothing is refused.
 use Rattle.std.specs.Prelude.{ℕ, pos, Bool, false, List, [], map, Option, Some, None, unwrap_or}
 use Rattle.toml.specs.Data.{Data, string, integer, boolean, array, table, Members, no_members}
-use Rattle.cl_model.specs.declared.place.Key.{Key}
-use Rattle.cl_model.specs.Reading.Checks.{meaning_of, members_of, value_at, found_or}
+use Rattle.cl_model.specs.{declared.place.Key.Key, Reading.Checks.{meaning_of, members_of, value_at, found_or}}
 
 -- the bytes of a string
 abbrev pub text_in : Data → List ℕ

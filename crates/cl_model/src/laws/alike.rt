@@ -1,10 +1,6 @@
 //! Models of the same names and labels: what is checked of them alike.
 ghost use Rattle.std.specs.Prelude.{◌≡◌, ◌↔◌};
-ghost use Rattle.cl_model.specs.declared.model.SystemModel.{SystemModel};
-ghost use Rattle.cl_model.specs.NamedAlike.{AreNamedAlike, PassesButNames};
-ghost use Rattle.cl_model.specs.Refusals.{each};
-ghost use Rattle.cl_model.specs.ValidNames.{name_checks};
-ghost use Rattle.cl_model.specs.Validity.{IsValid, chain_check, requirement_check};
+ghost use Rattle.cl_model.specs.{declared.model.SystemModel.SystemModel, NamedAlike.{AreNamedAlike, PassesButNames}, Refusals.each, ValidNames.name_checks, Validity.{IsValid, chain_check, requirement_check}};
 
 /// Two models of the same names and labels are refused the same for their names, for their chains
 /// and for their requirements.

@@ -1,16 +1,7 @@
 //! The groups of any steps, and of the chains of a valid model.
 ghost use Rattle.std.specs.Prelude.{◌≡◌, ◌≢◌, ℕ, ◌<◌, ◌≤◌, List, length, map, All};
-ghost use Rattle.cl_model.specs.declared.group.Group.{Group};
-ghost use Rattle.cl_model.specs.declared.group.Step.{Step};
-ghost use Rattle.cl_model.specs.declared.model.SystemModel.{SystemModel};
-ghost use Rattle.cl_model.specs.declared.task.TaskDef.{TaskDef};
-ghost use Rattle.cl_model.specs.ByNumber.{chain_at};
-ghost use Rattle.cl_model.specs.Changes.{with_new_task, without_task};
-ghost use Rattle.cl_model.specs.GroupCuts.{IsCutAfter};
-ghost use Rattle.cl_model.specs.Groups.{groups, steps_of, groups_at, IsGroupOf};
-ghost use Rattle.cl_model.specs.MaximalRuns.{AreMaximalRuns};
-ghost use Rattle.cl_model.specs.TaskNumbers.{group_without};
-ghost use Rattle.cl_model.specs.Validity.{IsValid};
+ghost use Rattle.cl_model.specs.{declared.{group.{Group.Group, Step.Step}, model.SystemModel.SystemModel, task.TaskDef.TaskDef}, ByNumber.chain_at, Changes.{with_new_task, without_task}, GroupCuts.IsCutAfter, Groups.{groups, steps_of, groups_at, IsGroupOf}, MaximalRuns.AreMaximalRuns};
+ghost use Rattle.cl_model.specs.{TaskNumbers.group_without, Validity.IsValid};
 
 /// Each group of a chain of a valid model lies within one task: its first and last runnable are in
 /// order, and both are runnables of the task. Each chain has at least one group.

@@ -1,14 +1,7 @@
 //! What the names in a valid model refer to: the cores and stimuli of tasks, the labels of
 //! runnables, the steps of chains, and the chains of requirements.
 ghost use Rattle.std.specs.Prelude.{◌≡◌, ℕ, List, All, Contains};
-ghost use Rattle.cl_model.specs.declared.chain.RequirementDef.{RequirementDef};
-ghost use Rattle.cl_model.specs.declared.group.Step.{Step};
-ghost use Rattle.cl_model.specs.declared.model.SystemModel.{SystemModel};
-ghost use Rattle.cl_model.specs.ByNumber.{runnable_at};
-ghost use Rattle.cl_model.specs.Groups.{IsStepOf};
-ghost use Rattle.cl_model.specs.KnownNames.{HasKnownParts, HasKnownLabels, IsLinked};
-ghost use Rattle.cl_model.specs.Named.{chain_names};
-ghost use Rattle.cl_model.specs.Validity.{IsValid};
+ghost use Rattle.cl_model.specs.{declared.{chain.RequirementDef.RequirementDef, group.Step.Step, model.SystemModel.SystemModel}, ByNumber.runnable_at, Groups.IsStepOf, KnownNames.{HasKnownParts, HasKnownLabels, IsLinked}, Named.chain_names, Validity.IsValid};
 
 /// The core and the stimulus that a task of a valid model names exist, and so does the chain that a
 /// requirement names.

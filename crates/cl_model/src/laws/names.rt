@@ -1,15 +1,7 @@
 //! The names in a valid model, which differ within each section and are found by look-up.
 ghost use Rattle.std.specs.Prelude.{◌≡◌, ◌<◌, ℕ, List, [], Some, length, slice_index_or, All, Contains};
-ghost use Rattle.cl_model.specs.declared.group.Step.{Step};
-ghost use Rattle.cl_model.specs.declared.model.SystemModel.{SystemModel};
-ghost use Rattle.cl_model.specs.declared.stimulus.StimulusDef.{StimulusDef};
-ghost use Rattle.cl_model.specs.declared.stimulus.StimulusKind.{StimulusKind};
-ghost use Rattle.cl_model.specs.ByNumber.{task_at, chain_at, runnable_at, core_of, stimulus_of, task_named, chain_named};
-ghost use Rattle.cl_model.specs.Groups.{step_named, IsStepOf};
-ghost use Rattle.cl_model.specs.KnownNames.{AreFound};
-ghost use Rattle.cl_model.specs.Named.{core_names, stimulus_names, label_names, task_names, chain_names, requirement_names, runnable_names, all_runnables, kind_named};
-ghost use Rattle.cl_model.specs.NameSets.{AreDistinctNames};
-ghost use Rattle.cl_model.specs.Validity.{IsValid};
+ghost use Rattle.cl_model.specs.{declared.{group.Step.Step, model.SystemModel.SystemModel, stimulus.{StimulusDef.StimulusDef, StimulusKind.StimulusKind}}, ByNumber.{task_at, chain_at, runnable_at, core_of, stimulus_of, task_named, chain_named}, Groups.{step_named, IsStepOf}};
+ghost use Rattle.cl_model.specs.{KnownNames.AreFound, Named.{core_names, stimulus_names, label_names, task_names, chain_names, requirement_names, runnable_names, all_runnables, kind_named}, NameSets.AreDistinctNames, Validity.IsValid};
 
 /// In a valid model the entries of a section have different names, and so have all runnables.
 pub fn names_are_apart()

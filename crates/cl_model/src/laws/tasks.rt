@@ -1,13 +1,7 @@
 //! The tasks of a valid model, and those of its cores. Times are in ticks.
 ghost use Rattle.std.specs.Prelude.{◌≡◌, ◌+◌, ◌*◌, ◌<◌, ◌≤◌, ℕ, length, All};
-ghost use Rattle.cl_model.specs.declared.model.SystemModel.{SystemModel};
-ghost use Rattle.cl_model.specs.declared.stimulus.StimulusDef.{StimulusDef};
-ghost use Rattle.cl_model.specs.declared.task.RunnableDef.{RunnableDef};
-ghost use Rattle.cl_model.specs.ByNumber.{task_at, core_of, stimulus_of, deadline_of, jitter_of, time_of, tasks_of_core};
-ghost use Rattle.cl_model.specs.Ranges.{IsKindInRange, IsRunnableInRange};
-ghost use Rattle.cl_model.specs.Named.{all_runnables};
-ghost use Rattle.cl_model.specs.Timing.{least_distance, greatest_distance, IsKindOrdered};
-ghost use Rattle.cl_model.specs.Validity.{IsValid};
+ghost use Rattle.cl_model.specs.{declared.{model.SystemModel.SystemModel, stimulus.StimulusDef.StimulusDef, task.RunnableDef.RunnableDef}, ByNumber.{task_at, core_of, stimulus_of, deadline_of, jitter_of, time_of, tasks_of_core}, Ranges.{IsKindInRange, IsRunnableInRange}};
+ghost use Rattle.cl_model.specs.{Named.all_runnables, Timing.{least_distance, greatest_distance, IsKindOrdered}, Validity.IsValid};
 
 use crate::limits::{
     MOST_DISTANCES, MOST_RUNNABLES, MOST_RUNNABLES_OF_MODEL, MOST_TASKS_OF_CORE, MOST_TICKS,

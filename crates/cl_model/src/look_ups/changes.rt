@@ -1,10 +1,6 @@
 //! Changes of the tables beside a model. After `NoMemory` they may be those of no model.
 ghost use Rattle.std.specs.Prelude.{◌≡◌, ◌<◌, ◌^◌, true, [], length, remove, insert, slice_index_or, slice_set, OnOk, All};
-ghost use Rattle.cl_model.specs.Named.{has_name, runnable_names};
-ghost use Rattle.cl_model.specs.NameSets.{AreNew};
-ghost use Rattle.cl_model.specs.Ranges.{IsTaskInRange};
-ghost use Rattle.cl_model.specs.Inner.LookUps.{ChainAdded, ChainDropped, RowAdded, TaskAdded, place_among, IsListed, TaskMoved, HasRow, RowDropped, TaskDropped};
-ghost use Rattle.cl_model.specs.Inner.StepTable.{HasSteps};
+ghost use Rattle.cl_model.specs.{Named.{has_name, runnable_names}, NameSets.AreNew, Ranges.IsTaskInRange, Inner.{LookUps.{ChainAdded, ChainDropped, RowAdded, TaskAdded, place_among, IsListed, TaskMoved, HasRow, RowDropped, TaskDropped}, StepTable.HasSteps}};
 
 use crate::chain::ChainDef;
 use crate::groups::groups_of_chain;

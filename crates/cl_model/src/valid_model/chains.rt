@@ -1,8 +1,7 @@
 //! Chains that are added to a valid model or removed from it. The tables beside it are updated, not
 //! made anew.
 ghost use Rattle.std.specs.Prelude.{◌≡◌, ◌<◌, length, IfOk};
-ghost use Rattle.cl_model.specs.Changes.{with_new_chain, without_chain};
-ghost use Rattle.cl_model.specs.Validity.{IsValid};
+ghost use Rattle.cl_model.specs.{Changes.{with_new_chain, without_chain}, Validity.IsValid};
 
 use crate::chain::ChainDef;
 use crate::valid_model::ValidModel;

@@ -1,9 +1,7 @@
 //! Changes of a valid model that stays valid. The tables beside it are updated, not made anew.
 //! Times are in ticks.
 ghost use Rattle.std.specs.Prelude.{◌≡◌, ◌<◌, length, All};
-ghost use Rattle.cl_model.specs.Groups.{IsStepOf};
-ghost use Rattle.cl_model.specs.Changes.{with_range, with_whole, with_kind, with_deadline, with_priorities, with_access};
-ghost use Rattle.cl_model.specs.Validity.{IsValid};
+ghost use Rattle.cl_model.specs.{Groups.IsStepOf, Changes.{with_range, with_whole, with_kind, with_deadline, with_priorities, with_access}, Validity.IsValid};
 
 use crate::changes::TaskPriority;
 use crate::group::Step;

@@ -1,9 +1,7 @@
 //! Requirements that are changed in a valid model, added to it or removed from it. The tables beside
 //! it are updated, not made anew.
 ghost use Rattle.std.specs.Prelude.{◌≡◌, ◌<◌, length, IfOk};
-ghost use Rattle.cl_model.specs.ByNumber.{requirement_at};
-ghost use Rattle.cl_model.specs.Changes.{with_requirement, with_new_requirement, without_requirement};
-ghost use Rattle.cl_model.specs.Validity.{IsValid};
+ghost use Rattle.cl_model.specs.{ByNumber.requirement_at, Changes.{with_requirement, with_new_requirement, without_requirement}, Validity.IsValid};
 
 use crate::chain::RequirementDef;
 use crate::valid_model::ValidModel;

@@ -1,10 +1,7 @@
 //! Tasks that are moved, added to a valid model or removed from it. The tables beside it are
 //! updated, not made anew.
 ghost use Rattle.std.specs.Prelude.{◌≡◌, ◌+◌, ◌<◌, ◌^◌, length, take, sum_by, IfOk};
-ghost use Rattle.cl_model.specs.ByNumber.{task_at};
-ghost use Rattle.cl_model.specs.Changes.{with_place, with_new_task, without_task};
-ghost use Rattle.cl_model.specs.Named.{all_runnables};
-ghost use Rattle.cl_model.specs.Validity.{IsValid};
+ghost use Rattle.cl_model.specs.{ByNumber.task_at, Changes.{with_place, with_new_task, without_task}, Named.all_runnables, Validity.IsValid};
 
 use crate::model::SystemModel;
 use crate::name::Name;

@@ -1,9 +1,6 @@
 -- Cores that are marked by their numbers.
 use Rattle.std.specs.Prelude.{◌≡◌, ℕ, ◌<◌, Bool, true, List}
-use Rattle.cl_model.specs.declared.group.Group.{Group}
-use Rattle.cl_model.specs.declared.model.SystemModel.{SystemModel}
-use Rattle.cl_model.specs.ByNumber.{core_of}
-use Rattle.cl_model.specs.Groups.{group_at}
+use Rattle.cl_model.specs.{declared.{group.Group.Group, model.SystemModel.SystemModel}, ByNumber.core_of, Groups.group_at}
 use Rattle.cl_run_data.specs.Parts.{is_among}
 
 -- the cores of the tasks of the first groups are marked

@@ -1,9 +1,7 @@
 -- Which of the measured chains of a run is the longest of a kind of length.
 use Rattle.std.specs.Prelude.{Option}
-use Rattle.cl_model.specs.declared.chain.LengthKind.{LengthKind}
-use Rattle.cl_model.specs.declared.chain.LengthKind.TheVariants.{Reaction, Age, Reduced}
-use Rattle.cl_chain.specs.declared.job_chain.JobChain.{JobChain}
-use Rattle.cl_chain.specs.declared.job_chain.Measured.{Measured}
+use Rattle.cl_model.specs.declared.chain.LengthKind.{LengthKind, TheVariants.{Reaction, Age, Reduced}}
+use Rattle.cl_chain.specs.declared.job_chain.{JobChain.JobChain, Measured.Measured}
 
 -- the longest chain of a kind of length, if there is one
 abbrev pub longest_of_length : LengthKind → Measured → Option JobChain

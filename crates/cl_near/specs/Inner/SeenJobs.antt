@@ -1,9 +1,7 @@
 -- What is seen of jobs that arrive and finish at some moments. Times are in ticks.
 use Rattle.std.specs.Prelude.{◌≡◌, ℕ, Option, Some, None, ◌+◌, ◌-◌, ◌<◌, ◌≤◌, List, length, slice_index_or}
-use Rattle.cl_runs.specs.declared.job.Job.{Job}
-use Rattle.cl_runs.specs.Table.{job_at}
-use Rattle.cl_near.specs.declared.task_seen.SeenOfTask.{SeenOfTask}
-use Rattle.cl_near.specs.declared.task_seen.SeenOfTask.TheVariants.{Missed, Response}
+use Rattle.cl_runs.specs.{declared.job.Job.Job, Table.job_at}
+use Rattle.cl_near.specs.declared.task_seen.SeenOfTask.{SeenOfTask, TheVariants.{Missed, Response}}
 
 -- a job that is to have finished by a moment, in a run that lasts until then, hasn't
 abbrev pub IsMissed : (due ticks : ℕ) → (finish : Option ℕ) → Type 0

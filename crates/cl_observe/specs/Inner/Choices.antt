@@ -1,7 +1,6 @@
 -- The greatest response, and the least and the greatest number, when one job more is looked at.
 use Rattle.std.specs.Prelude.{ℕ, ℤ, pos, ◌-ℤ◌, int_lt, Option, Some, None, if◌then◌else◌}
-use Rattle.cl_observe.specs.declared.values.GreatestResponse.{GreatestResponse}
-use Rattle.cl_observe.specs.declared.values.Spread.{Spread}
+use Rattle.cl_observe.specs.declared.values.{GreatestResponse.GreatestResponse, Spread.Spread}
 
 -- the response of the job where it is greater, or the first
 abbrev pub or_response : Option GreatestResponse → (job : ℕ) → (response : ℤ) → GreatestResponse

@@ -1,11 +1,7 @@
 -- What jobs have by a list of their finishes, one entry for each.
 use Rattle.std.specs.Prelude.{◌≡◌, ℕ, ℤ, pos, ◌-ℤ◌, ◌+◌, ◌-◌, ◌<◌, Bool, true, ◌&&◌, nat_le, nat_lt, List, length, slice_index, slice_index_or, Option, Some, None}
-use Rattle.cl_runs.specs.declared.job.Job.{Job}
-use Rattle.cl_runs.specs.Run.{Run}
-use Rattle.cl_runs.specs.TaskTiming.{System, timing_at}
-use Rattle.cl_check.specs.declared.job_ends.End.TheVariants.{Finish}
-use Rattle.cl_check.specs.JobMoments.{AreEndsOfJobs}
-use Rattle.cl_runs.specs.Table.{job_at}
+use Rattle.cl_runs.specs.{declared.job.Job.Job, Run.Run, TaskTiming.{System, timing_at}, Table.job_at}
+use Rattle.cl_check.specs.{declared.job_ends.End.TheVariants.Finish, JobMoments.AreEndsOfJobs}
 
 -- when the jobs of a task finish: its last runnable does
 abbrev pub AreFinishTimes : System → Run → (task : ℕ) → List (Option ℕ) → Type 0

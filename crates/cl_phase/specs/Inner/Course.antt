@@ -2,13 +2,8 @@
 use Rattle.std.specs.Prelude.{◌≡◌, ℤ, pos, List, [], ◌∷◌, map}
 use Rattle.cl_model.specs.declared.group.Group.{Group}
 use Rattle.cl_runs.specs.TaskTiming.{System}
-use Rattle.cl_bound.specs.Hops.{lag}
-use Rattle.cl_bound.specs.declared.group_timing.GroupTiming.{GroupTiming}
-use Rattle.cl_phase.specs.declared.course.Course.{Course}
-use Rattle.cl_phase.specs.TightBounds.{stops_of, span_of, last_write}
-use Rattle.cl_phase.specs.Inner.Ranges.{AreStopsInRange, AreEndsInRange}
-use Rattle.cl_phase.specs.Inner.Longest.{span_between}
-use Rattle.cl_phase.specs.Inner.Keeping.{AreKeptIn}
+use Rattle.cl_bound.specs.{Hops.lag, declared.group_timing.GroupTiming.GroupTiming}
+use Rattle.cl_phase.specs.{declared.course.Course.Course, TightBounds.{stops_of, span_of, last_write}, Inner.{Ranges.{AreStopsInRange, AreEndsInRange}, Longest.span_between, Keeping.AreKeptIn}}
 
 -- the lag from the first of some groups to the next one, 0 where there is none
 abbrev pub first_lag : (timings : List GroupTiming) → ℤ

@@ -1,9 +1,7 @@
 -- Walks that change evenly from start to start. Times are in ticks.
 use Rattle.std.specs.Prelude.{◌≡◌, ℕ, ◌+◌, ◌*◌, ◌≤◌, ℤ, pos, ◌+ℤ◌}
 use Rattle.std.specs.Int.{◌∣◌}
-use Rattle.cl_phase.specs.declared.pace.Pace.{Pace}
-use Rattle.cl_phase.specs.declared.pace.Pace.TheVariants.{Kept, Free}
-use Rattle.cl_phase.specs.Pace.{ComesRound}
+use Rattle.cl_phase.specs.{declared.pace.Pace.{Pace, TheVariants.{Kept, Free}}, Pace.ComesRound}
 
 -- so many ticks are whole turns of a pace, as many each of so many times
 abbrev pub AreEvenTurns : Pace → (ticks times : ℕ) → Type 0

@@ -1,17 +1,8 @@
 -- What code knows of the phases that a chain keeps. Times are in ticks.
 use Rattle.std.specs.Prelude.{◌≡◌, ℕ, ◌-◌, ◌^◌, ◌≤◌, nat_le, min, Bool, true, false, List, [], ◌∷◌, map, All}
-use Rattle.cl_model.specs.declared.stimulus.StimulusKind.{StimulusKind}
-use Rattle.cl_model.specs.Timing.{greatest_distance}
-use Rattle.cl_stim.specs.declared.phase.Phase.{Phase}
-use Rattle.cl_stim.specs.Phase.{IsPhaseInRange, phase_of, arrivals_in}
-use Rattle.cl_stim.specs.Multiples.{hyperperiod_of}
-use Rattle.cl_phase.specs.declared.pace.Pace.{Pace}
-use Rattle.cl_phase.specs.declared.pace.Pace.TheVariants.{Kept, Free}
-use Rattle.cl_phase.specs.declared.stop.Stop.{Stop}
-use Rattle.cl_phase.specs.declared.keeping.Keeping.{Keeping}
-use Rattle.cl_phase.specs.Kept.{come_round_soon, phase_beside, kept_with, pace_with, phases_in}
-use Rattle.cl_phase.specs.TightBounds.{hyperperiod_in}
-use Rattle.cl_phase.specs.Inner.Ranges.{LONGEST_HYPERPERIOD, IsPaceInRange}
+use Rattle.cl_model.specs.{declared.stimulus.StimulusKind.StimulusKind, Timing.greatest_distance}
+use Rattle.cl_stim.specs.{declared.phase.Phase.Phase, Phase.{IsPhaseInRange, phase_of, arrivals_in}, Multiples.hyperperiod_of}
+use Rattle.cl_phase.specs.{declared.{pace.Pace.{Pace, TheVariants.{Kept, Free}}, stop.Stop.Stop, keeping.Keeping.Keeping}, Kept.{come_round_soon, phase_beside, kept_with, pace_with, phases_in}, TightBounds.hyperperiod_in, Inner.Ranges.{LONGEST_HYPERPERIOD, IsPaceInRange}}
 
 -- the fewest arrivals of one of some phases in so many ticks; the greatest number of 64 bits where there is none
 abbrev pub fewest_in : (ticks : ℕ) → List Phase → ℕ

@@ -1,14 +1,9 @@
 -- The longest walks from arrivals of a group. Times are in ticks.
 use Rattle.std.specs.Prelude.{ℕ, ℤ, pos, ◌-ℤ◌, max, List}
-use Rattle.cl_model.specs.Holds.{greatest_by}
-use Rattle.cl_model.specs.declared.chain.LengthKind.TheVariants.{Reaction, Age, Reduced}
-use Rattle.cl_model.specs.declared.chain.RequirementKind.{RequirementKind}
+use Rattle.cl_model.specs.{Holds.greatest_by, declared.chain.{LengthKind.TheVariants.{Reaction, Age, Reduced}, RequirementKind.RequirementKind}}
 use Rattle.cl_model.specs.declared.chain.RequirementKind.TheVariants as kind
 use Rattle.cl_bound.specs.Bounds.{Lengths}
-use Rattle.cl_phase.specs.declared.stop.Stop.{Stop}
-use Rattle.cl_phase.specs.declared.walk.Ends.{Ends}
-use Rattle.cl_phase.specs.declared.walk.Longest.{Longest}
-use Rattle.cl_phase.specs.TightBounds.{ticks_or_none, length_from, reduced_from, delay_from}
+use Rattle.cl_phase.specs.{declared.{stop.Stop.Stop, walk.{Ends.Ends, Longest.Longest}}, TightBounds.{ticks_or_none, length_from, reduced_from, delay_from}}
 
 -- the latest write less the earliest read
 abbrev pub span_between : Ends → ℤ

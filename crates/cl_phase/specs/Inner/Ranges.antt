@@ -1,14 +1,8 @@
 -- How far the moments of walks lie from 0, so that 64 signed bits hold them. Times are in ticks.
 use Rattle.std.specs.Prelude.{ℕ, ◌*◌, ◌<◌, ◌≤◌, List, length}
 use Rattle.cl_model.specs.declared.limits.TheConstants.{MOST_TICKS, MOST_STEPS}
-use Rattle.cl_stim.specs.Integers.{IsIntegerWithin}
-use Rattle.cl_stim.specs.Phase.{IsPhaseInRange}
-use Rattle.cl_phase.specs.declared.pace.TheConstants.{MOST_ARRIVALS}
-use Rattle.cl_phase.specs.declared.pace.Pace.{Pace}
-use Rattle.cl_phase.specs.declared.pace.Pace.TheVariants.{Kept, Free}
-use Rattle.cl_phase.specs.declared.stop.Stop.{Stop}
-use Rattle.cl_phase.specs.declared.walk.Ends.{Ends}
-use Rattle.cl_phase.specs.Walks.{pace_at, lag_at}
+use Rattle.cl_stim.specs.{Integers.IsIntegerWithin, Phase.IsPhaseInRange}
+use Rattle.cl_phase.specs.{declared.{pace.{TheConstants.MOST_ARRIVALS, Pace.{Pace, TheVariants.{Kept, Free}}}, stop.Stop.Stop, walk.Ends.Ends}, Walks.{pace_at, lag_at}}
 
 -- the moments from which walks start lie at most so far from 0
 abbrev pub FARTHEST_START : ℕ

@@ -1,9 +1,6 @@
 -- The longest of some walks that start at arrivals of a group. Times are in ticks.
 use Rattle.std.specs.Prelude.{◌≡◌, ℕ, ◌+◌, ◌*◌, ◌≤◌, pos, List}
-use Rattle.cl_phase.specs.declared.stop.Stop.{Stop}
-use Rattle.cl_phase.specs.declared.walk.Ends.{Ends}
-use Rattle.cl_phase.specs.declared.walk.Longest.{Longest}
-use Rattle.cl_phase.specs.Inner.Longest.{lengths_at}
+use Rattle.cl_phase.specs.{declared.{stop.Stop.Stop, walk.{Ends.Ends, Longest.Longest}}, Inner.Longest.lengths_at}
 
 -- some lengths are within others, kind by kind
 pub record AreNoLonger (lengths most : Longest) : Type 0 where

@@ -3,10 +3,8 @@
 ghost use Rattle.std.specs.Prelude.{◌<◌, List, length, All};
 ghost use Rattle.cl_model.specs.declared.group.Group.{Group};
 ghost use Rattle.cl_runs.specs.TaskTiming.{System, IsSound};
-ghost use Rattle.cl_bound.specs.Timings.{AlwaysKeeps};
-ghost use Rattle.cl_bound.specs.declared.group_timing.GroupTiming.{GroupTiming};
-ghost use Rattle.cl_phase.specs.CompleteChains.{HasCompleteChains, AreSomeTicks};
-ghost use Rattle.cl_phase.specs.TightBounds.{tight_bounds};
+ghost use Rattle.cl_bound.specs.{Timings.AlwaysKeeps, declared.group_timing.GroupTiming.GroupTiming};
+ghost use Rattle.cl_phase.specs.{CompleteChains.{HasCompleteChains, AreSomeTicks}, TightBounds.tight_bounds};
 
 /// Some legal run has complete chains of each kind along groups whose timings always hold, and each
 /// of them lasts 1 tick or more.

@@ -1,14 +1,9 @@
 //! Tight delays beside tight reactions, and when groups read.
 ghost use Rattle.std.specs.Prelude.{◌≡◌, ℕ, ◌+◌, ◌<◌, ◌≤◌, true, List, length, All};
-ghost use Rattle.cl_model.specs.declared.group.Group.{Group};
-ghost use Rattle.cl_model.specs.declared.stimulus.StimulusKind.TheVariants.{Periodic};
-ghost use Rattle.cl_runs.specs.TaskTiming.{System, timing_at, IsSound};
-ghost use Rattle.cl_runs.specs.Chains.{first_group};
-ghost use Rattle.cl_bound.specs.SettledChains.{IsGroupOfTask};
-ghost use Rattle.cl_bound.specs.Timings.{AlwaysKeeps};
-ghost use Rattle.cl_bound.specs.declared.group_timing.GroupTiming.{GroupTiming};
-ghost use Rattle.cl_phase.specs.EarlyReads.{ReadsBeforeNext};
-ghost use Rattle.cl_phase.specs.TightBounds.{tight_bounds};
+ghost use Rattle.cl_model.specs.declared.{group.Group.Group, stimulus.StimulusKind.TheVariants.Periodic};
+ghost use Rattle.cl_runs.specs.{TaskTiming.{System, timing_at, IsSound}, Chains.first_group};
+ghost use Rattle.cl_bound.specs.{SettledChains.IsGroupOfTask, Timings.AlwaysKeeps, declared.group_timing.GroupTiming.GroupTiming};
+ghost use Rattle.cl_phase.specs.{EarlyReads.ReadsBeforeNext, TightBounds.tight_bounds};
 
 /// Where the first group reads before its next job arrives, the tight delay is at most the tight
 /// reaction. Where the first task is periodic and timed, it is the reaction less the period.

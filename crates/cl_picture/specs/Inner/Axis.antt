@@ -1,8 +1,6 @@
 -- The ticks of an axis, as the code keeps them.
 use Rattle.std.specs.Prelude.{◌≡◌}
-use Rattle.cl_picture.specs.declared.window.Window.{Window}
-use Rattle.cl_picture.specs.declared.axis.Axis.{Axis}
-use Rattle.cl_picture.specs.Axis.{window_step, first_tick, tick_count}
+use Rattle.cl_picture.specs.{declared.{window.Window.Window, axis.Axis.Axis}, Axis.{window_step, first_tick, tick_count}}
 
 pub record IsAxis (window : Window) (axis : Axis) : Type 0 where
   pub step : axis.step ≡ window_step window

@@ -4,12 +4,8 @@ use Rattle.std.specs.Borrow.{Bor}
 use Rattle.std.specs.List.{list_any}
 use Rattle.std.specs.Option.{option_map, option_or}
 use Rattle.std.specs.Str.{bytes_eq}
-use Rattle.toml.specs.Data.{Data, Members}
-use Rattle.toml.specs.View.{view, table_view}
-use Rattle.toml.specs.declared.value.Value.{Value}
-use Rattle.cl_model.specs.declared.place.Key.{Key}
-use Rattle.cl_model.specs.Place.{key_text}
-use Rattle.cl_model.specs.Reading.Checks.{value_at}
+use Rattle.toml.specs.{Data.{Data, Members}, View.{view, table_view}, declared.value.Value.Value}
+use Rattle.cl_model.specs.{declared.place.Key.Key, Place.key_text, Reading.Checks.value_at}
 use Rattle.cl_read.specs.declared.keys.Fields.{Fields}
 
 -- whether the word is that of a key

@@ -3,15 +3,9 @@ use Rattle.std.specs.Prelude.{◌≡◌, ℕ, ℤ, pos, ◌-ℤ◌, ◌+◌, ◌
 use Rattle.std.specs.Int.{◌∣◌}
 use Rattle.cl_model.specs.declared.limits.TheConstants.{MOST_TICKS, MOST_RUNNABLES, MOST_TASKS_OF_CORE}
 use Rattle.cl_stim.specs.Phase.{IsPhaseInRange}
-use Rattle.cl_cycle.specs.declared.cycle.TheConstants.{MOST_IN_CYCLE}
-use Rattle.cl_cycle.specs.Counts.{arrivals_from}
+use Rattle.cl_cycle.specs.{declared.cycle.TheConstants.MOST_IN_CYCLE, Counts.arrivals_from}
 use Rattle.cl_runs.specs.TaskTiming.{System}
-use Rattle.cl_resp.specs.declared.phased.InPhase.{InPhase}
-use Rattle.cl_resp.specs.declared.phased.PhasedQuestion.{PhasedQuestion}
-use Rattle.cl_resp.specs.Question.{IsQuestionInRange}
-use Rattle.cl_resp.specs.Response.{demand}
-use Rattle.cl_resp.specs.Asked.{Asked}
-use Rattle.cl_resp.specs.ByPhase.{asked_by_phase}
+use Rattle.cl_resp.specs.{declared.phased.{InPhase.InPhase, PhasedQuestion.PhasedQuestion}, Question.IsQuestionInRange, Response.demand, Asked.Asked, ByPhase.asked_by_phase}
 
 -- how long the jobs of a task in phase take at most of a window
 abbrev pub time_in_phase : (start : ℤ) → (width : ℕ) → InPhase → ℕ

@@ -4,8 +4,7 @@ use Rattle.std.specs.Prelude.{◌≡◌, ℤ, pos, ◌+ℤ◌, ◌-ℤ◌, ◌�
 use Rattle.std.specs.List.{list_any}
 use Rattle.cl_model.specs.declared.limits.TheConstants.{MOST_TICKS}
 use Rattle.cl_stim.specs.Phase.{arrives_at}
-use Rattle.cl_resp.specs.declared.phased.InPhase.{InPhase}
-use Rattle.cl_resp.specs.declared.phased.PhasedQuestion.{PhasedQuestion}
+use Rattle.cl_resp.specs.declared.phased.{InPhase.InPhase, PhasedQuestion.PhasedQuestion}
 
 -- whether a job of a task in phase that is released at a moment can have waited for its whole jitter
 abbrev pub is_latest_release : (moment : ℤ) → InPhase → Bool

@@ -1,11 +1,7 @@
 -- What is kept of the tasks above while a window rises: what each takes, and up to which width it takes just that.
 use Rattle.std.specs.Prelude.{◌≡◌, ℕ, ℤ, ◌*◌, ◌<◌, ◌≤◌, List, length, slice_index, slice_index_or}
-use Rattle.cl_stim.specs.declared.arrivals.TheConstants.{MOST_WIDTH}
-use Rattle.cl_stim.specs.AnyStimulus.{kind_of}
-use Rattle.cl_stim.specs.Releases.{most_releases}
-use Rattle.cl_resp.specs.declared.question.Above.{Above}
-use Rattle.cl_resp.specs.declared.phased.InPhase.{InPhase}
-use Rattle.cl_resp.specs.Inner.Phased.{time_in_phase}
+use Rattle.cl_stim.specs.{declared.arrivals.TheConstants.MOST_WIDTH, AnyStimulus.kind_of, Releases.most_releases}
+use Rattle.cl_resp.specs.{declared.{question.Above.Above, phased.InPhase.InPhase}, Inner.Phased.time_in_phase}
 
 -- what a task above takes of a window of `width` ticks at most
 abbrev pub taken_in : Above → (width : ℕ) → ℕ

@@ -2,11 +2,7 @@
 use Rattle.std.specs.Prelude.{◌≡◌, ℕ, ℤ, pos, ◌+ℤ◌, ◌-ℤ◌, ◌<ℤ◌, ◌<◌, ◌≤◌, true, false, All, Option, IfSome}
 use Rattle.cl_model.specs.declared.limits.TheConstants.{MOST_TICKS}
 use Rattle.cl_stim.specs.Phase.{arrives_at}
-use Rattle.cl_resp.specs.declared.by_phase.Search.{Search}
-use Rattle.cl_resp.specs.declared.phased.InPhase.{InPhase}
-use Rattle.cl_resp.specs.declared.phased.PhasedQuestion.{PhasedQuestion}
-use Rattle.cl_resp.specs.Asked.{Asked, is_answered, suffices, MayBegin, EndsBy}
-use Rattle.cl_resp.specs.Inner.Phased.{asked_of, NoneBefore, ServesAnywhere}
+use Rattle.cl_resp.specs.{declared.{by_phase.Search.Search, phased.{InPhase.InPhase, PhasedQuestion.PhasedQuestion}}, Asked.{Asked, is_answered, suffices, MayBegin, EndsBy}, Inner.Phased.{asked_of, NoneBefore, ServesAnywhere}}
 
 -- what a search knows of its question: no window narrower than the least holds its own demand, the widest holds whatever
 -- is asked, and within the most all is answered

@@ -1,11 +1,7 @@
 -- How the worst window of a task is searched for. Times are in ticks, and moments may lie before 0.
 use Rattle.std.specs.Prelude.{ℕ, ℤ, pos, ◌+ℤ◌, ◌<ℤ◌, ◌≤ℤ◌}
 use Rattle.cl_stim.specs.Phase.{IsArrivalOf}
-use Rattle.cl_resp.specs.declared.phased.InPhase.{InPhase}
-use Rattle.cl_resp.specs.declared.phased.PhasedQuestion.{PhasedQuestion}
-use Rattle.cl_resp.specs.Asked.{Asked, MayBegin, EndsBy}
-use Rattle.cl_resp.specs.Worst.{NoneEndsBy, PassesOrZero, is_released_in}
-use Rattle.cl_resp.specs.Inner.Phased.{asked_of}
+use Rattle.cl_resp.specs.{declared.phased.{InPhase.InPhase, PhasedQuestion.PhasedQuestion}, Asked.{Asked, MayBegin, EndsBy}, Worst.{NoneEndsBy, PassesOrZero, is_released_in}, Inner.Phased.asked_of}
 
 -- from wherever the window of an arrival may begin, one ends within so many ticks of it
 abbrev pub IsAllAnswered : Asked → (within : ℕ) → (arrival : ℤ) → Type 0

@@ -1,11 +1,8 @@
 //! The questions of the tasks of valid models and sound systems.
 ghost use Rattle.std.specs.Prelude.{ℕ, ◌<◌, ◌≤◌, length};
-ghost use Rattle.cl_model.specs.declared.model.SystemModel.{SystemModel};
-ghost use Rattle.cl_model.specs.Validity.{IsValid};
-ghost use Rattle.cl_runs.specs.SystemOf.{system_of};
-ghost use Rattle.cl_runs.specs.TaskTiming.{Timing, System, timing_at, IsSound};
-ghost use Rattle.cl_resp.specs.Question.{question_of, tight_question_of, AsksEnough, IsQuestionInRange};
-ghost use Rattle.cl_resp.specs.Response.{AsksNoMore};
+ghost use Rattle.cl_model.specs.{declared.model.SystemModel.SystemModel, Validity.IsValid};
+ghost use Rattle.cl_runs.specs.{SystemOf.system_of, TaskTiming.{Timing, System, timing_at, IsSound}};
+ghost use Rattle.cl_resp.specs.{Question.{question_of, tight_question_of, AsksEnough, IsQuestionInRange}, Response.AsksNoMore};
 
 /// The question of each task of a valid model is in range.
 pub fn questions_are_in_range()

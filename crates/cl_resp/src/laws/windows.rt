@@ -1,12 +1,8 @@
 //! The window of a task, as the least width that holds its own demand and as the least fixpoint of
 //! its demand.
 ghost use Rattle.std.specs.Prelude.{◌≡◌, ℕ, ◌+◌, ◌-◌, ◌<◌, ◌≤◌, Bool, true, Some, None, length};
-ghost use Rattle.cl_runs.specs.TaskTiming.{System, timing_at, IsSound};
-ghost use Rattle.cl_runs.specs.Priorities.{is_above};
-ghost use Rattle.cl_resp.specs.declared.question.Block.{Block};
-ghost use Rattle.cl_resp.specs.declared.question.Question.{Question};
-ghost use Rattle.cl_resp.specs.Question.{either_question};
-ghost use Rattle.cl_resp.specs.Response.{demand, busy_window, IsWindow, IsLeastFixpoint, HasNoFixpoint, NoneServesBelow};
+ghost use Rattle.cl_runs.specs.{TaskTiming.{System, timing_at, IsSound}, Priorities.is_above};
+ghost use Rattle.cl_resp.specs.{declared.question.{Block.Block, Question.Question}, Question.either_question, Response.{demand, busy_window, IsWindow, IsLeastFixpoint, HasNoFixpoint, NoneServesBelow}};
 
 /// The window of a task is the least width, from 1 tick up to the deadline less the jitter, that
 /// holds its own demand. A task has no window exactly where no such width does.

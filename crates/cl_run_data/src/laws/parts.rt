@@ -1,14 +1,7 @@
 //! Runs of some cores alone are parts of legal runs, and show what is so there.
 ghost use Rattle.std.specs.Prelude.{◌≡◌, ℕ, Bool, true, ◌↔◌, ◌<◌, List, length};
-ghost use Rattle.cl_model.specs.declared.chain.RequirementKind.{RequirementKind};
-ghost use Rattle.cl_model.specs.declared.group.Group.{Group};
-ghost use Rattle.cl_model.specs.Groups.{group_at};
-ghost use Rattle.cl_runs.specs.TaskTiming.{System, timing_at, IsSound};
-ghost use Rattle.cl_runs.specs.Run.{Run};
-ghost use Rattle.cl_runs.specs.Legal.{IsLegal};
-ghost use Rattle.cl_runs.specs.Chains.{JobChain};
-ghost use Rattle.cl_runs.specs.MomentOrder.{AreGroupsOf};
-ghost use Rattle.cl_runs.specs.Requirements.{IsChainRequired};
+ghost use Rattle.cl_model.specs.{declared.{chain.RequirementKind.RequirementKind, group.Group.Group}, Groups.group_at};
+ghost use Rattle.cl_runs.specs.{TaskTiming.{System, timing_at, IsSound}, Run.Run, Legal.IsLegal, Chains.JobChain, MomentOrder.AreGroupsOf, Requirements.IsChainRequired};
 ghost use Rattle.cl_run_data.specs.Parts.{is_among, IsLegalOn, AreAlikeOn, HasWhole, ShowsTask, ShowsGroups};
 
 /// A run that is legal on some cores is a part of a legal run, which is like it on these cores.

@@ -1,10 +1,7 @@
 //! What it means that jobs follow a pattern, for each kind of pattern.
 ghost use Rattle.std.specs.Prelude.{ℕ, List};
 ghost use Rattle.cl_model.specs.declared.stimulus.StimulusKind.TheVariants.{Periodic, Sporadic, Burst};
-ghost use Rattle.cl_runs.specs.declared.job.Job.{Job};
-ghost use Rattle.cl_runs.specs.Pattern.{IsPattern};
-ghost use Rattle.cl_runs.specs.Arrivals.{FollowPattern};
-ghost use Rattle.cl_runs.specs.ArrivalsByKind.{FollowsPeriod, FollowsGaps, FollowsBursts};
+ghost use Rattle.cl_runs.specs.{declared.job.Job.Job, Pattern.IsPattern, Arrivals.FollowPattern, ArrivalsByKind.{FollowsPeriod, FollowsGaps, FollowsBursts}};
 
 /// Jobs follow a periodic pattern exactly where job `k` arrives at `offset + k * period`, within
 /// the run, and is released at most the jitter later, and the next arrival isn't due in the run.

@@ -1,16 +1,8 @@
 //! Complete job chains: each is determined by its first or last job, and ends after it begins.
 ghost use Rattle.std.specs.Prelude.{◌≡◌, ◌<◌, List, Option};
-ghost use Rattle.cl_runs.specs.TaskTiming.{System, IsSound};
-ghost use Rattle.cl_runs.specs.Run.{Run};
-ghost use Rattle.cl_runs.specs.Legal.{IsLegal};
-ghost use Rattle.cl_model.specs.declared.group.Group.{Group};
-ghost use Rattle.cl_model.specs.declared.group.Step.{Step};
-ghost use Rattle.cl_model.specs.Groups.{groups};
-ghost use Rattle.cl_runs.specs.Chains.{JobChain, first_job, last_job, IsForwardChain, IsAgeChain, IsReducedChain};
-ghost use Rattle.cl_runs.specs.RunChains.{run_moments, ideal_moments};
-ghost use Rattle.cl_runs.specs.MomentOrder.{AreGroupsOf};
-ghost use Rattle.cl_runs.specs.SameMoments.{HaveSameMoments};
-ghost use Rattle.cl_runs.specs.Measured.{Measured, IsMeasured, IsMeasuredBy};
+ghost use Rattle.cl_runs.specs.{TaskTiming.{System, IsSound}, Run.Run, Legal.IsLegal, Chains.{JobChain, first_job, last_job, IsForwardChain, IsAgeChain, IsReducedChain}, RunChains.{run_moments, ideal_moments}, MomentOrder.AreGroupsOf, SameMoments.HaveSameMoments, Measured.Measured};
+ghost use Rattle.cl_runs.specs.Measured.{IsMeasured, IsMeasuredBy};
+ghost use Rattle.cl_model.specs.{declared.group.{Group.Group, Step.Step}, Groups.groups};
 
 /// Complete job chains over ideal moments depend on those of their groups alone: groups that read
 /// and write alike, place by place, have the same chains.

@@ -1,9 +1,7 @@
 //! Deadlines that are met.
 ghost use Rattle.std.specs.Prelude.{ℕ, ◌<◌, length};
 ghost use Rattle.cl_model.specs.declared.model.SystemModel.{SystemModel};
-ghost use Rattle.cl_runs.specs.SystemOf.{system_of};
-ghost use Rattle.cl_runs.specs.Responses.{IsTimely};
-ghost use Rattle.cl_runs.specs.Requirements.{MeetsDeadlines};
+ghost use Rattle.cl_runs.specs.{SystemOf.system_of, Responses.IsTimely, Requirements.MeetsDeadlines};
 
 /// A model meets its deadlines where each task has a response within its deadline.
 pub fn timely_tasks_meet_deadlines()

@@ -1,16 +1,8 @@
 //! There are legal runs, each goes on to every greater length, and what has happened stays.
 ghost use Rattle.std.specs.Prelude.{◌≡◌, ℕ, ◌<◌, ◌≤◌, List};
-ghost use Rattle.cl_runs.specs.TaskTiming.{System, IsSound};
-ghost use Rattle.cl_runs.specs.declared.job.JobTable.{JobTable};
-ghost use Rattle.cl_runs.specs.Table.{IsLawful};
-ghost use Rattle.cl_runs.specs.Run.{Run, empty_run};
-ghost use Rattle.cl_runs.specs.Legal.{IsLegal};
-ghost use Rattle.cl_runs.specs.Moments.{Starts, Finishes, Reads, Writes};
-ghost use Rattle.cl_runs.specs.GoesOn.{GoesOn};
-ghost use Rattle.cl_runs.specs.Continuation.{IsContinuation, HasContinuation};
+ghost use Rattle.cl_runs.specs.{TaskTiming.{System, IsSound}, declared.job.JobTable.JobTable, Table.IsLawful, Run.{Run, empty_run}, Legal.IsLegal, Moments.{Starts, Finishes, Reads, Writes}, GoesOn.GoesOn, Continuation.{IsContinuation, HasContinuation}, Chains.{JobChain, IsForwardChain}};
+ghost use Rattle.cl_runs.specs.{Chains.{IsAgeChain, IsReducedChain}, RunChains.run_moments};
 ghost use Rattle.cl_model.specs.declared.group.Group.{Group};
-ghost use Rattle.cl_runs.specs.Chains.{JobChain, IsForwardChain, IsAgeChain, IsReducedChain};
-ghost use Rattle.cl_runs.specs.RunChains.{run_moments};
 
 /// The run of no ticks is legal. In a sound system each lawful job table has a legal run, and there
 /// is a legal run of every length.

@@ -1,12 +1,7 @@
 //! Whole runnables in a legal run of a sound system: they aren't interrupted, and none starts where
 //! a task of higher priority is pending on its core.
 ghost use Rattle.std.specs.Prelude.{◌≡◌, ℕ, suc, ◌+◌, ◌<◌, ◌≤◌, true, length, slice_index};
-ghost use Rattle.cl_runs.specs.TaskTiming.{System, timing_at, range_at, IsSound};
-ghost use Rattle.cl_runs.specs.Table.{job_at};
-ghost use Rattle.cl_runs.specs.Run.{Run, jobs_of, executed};
-ghost use Rattle.cl_runs.specs.Held.{IsHeldIn};
-ghost use Rattle.cl_runs.specs.Legal.{released, IsNoneHeld, IsHighestPending, IsLegal};
-ghost use Rattle.cl_runs.specs.Moments.{IsHeldAt, Executes, Starts, Finishes};
+ghost use Rattle.cl_runs.specs.{TaskTiming.{System, timing_at, range_at, IsSound}, Table.job_at, Run.{Run, jobs_of, executed}, Held.IsHeldIn, Legal.{released, IsNoneHeld, IsHighestPending, IsLegal}, Moments.{IsHeldAt, Executes, Starts, Finishes}};
 
 /// At most one task of a core is held at a time.
 pub fn one_task_is_held()

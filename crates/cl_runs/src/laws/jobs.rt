@@ -1,10 +1,7 @@
 //! The arrivals and releases of the jobs of a task in a legal run of a sound system.
 ghost use Rattle.std.specs.Prelude.{ℕ, suc, ◌+◌, ◌<◌, ◌≤◌, length};
 ghost use Rattle.cl_model.specs.Timing.{least_distance, greatest_distance, greatest_jitter};
-ghost use Rattle.cl_runs.specs.TaskTiming.{System, timing_at, IsSound};
-ghost use Rattle.cl_runs.specs.Table.{job_at};
-ghost use Rattle.cl_runs.specs.Run.{Run, jobs_of};
-ghost use Rattle.cl_runs.specs.Legal.{IsLegal};
+ghost use Rattle.cl_runs.specs.{TaskTiming.{System, timing_at, IsSound}, Table.job_at, Run.{Run, jobs_of}, Legal.IsLegal};
 
 /// A later job of a task arrives at least the least distance after an earlier one, and so at or
 /// after the deadline of that one.

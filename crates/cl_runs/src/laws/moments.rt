@@ -2,11 +2,7 @@
 //! the job.
 ghost use Rattle.std.specs.Prelude.{◌≡◌, ℕ, ◌+◌, ◌<◌, ◌≤◌, length};
 ghost use Rattle.cl_model.specs.declared.task.AccessKind.TheVariants.{Timed};
-ghost use Rattle.cl_runs.specs.TaskTiming.{System, timing_at, IsSound};
-ghost use Rattle.cl_runs.specs.Table.{job_at};
-ghost use Rattle.cl_runs.specs.Run.{Run, jobs_of};
-ghost use Rattle.cl_runs.specs.Legal.{IsLegal};
-ghost use Rattle.cl_runs.specs.Moments.{Starts, Finishes, JobFinishes, Reads, HasReadBefore, Writes};
+ghost use Rattle.cl_runs.specs.{TaskTiming.{System, timing_at, IsSound}, Table.job_at, Run.{Run, jobs_of}, Legal.IsLegal, Moments.{Starts, Finishes, JobFinishes, Reads, HasReadBefore, Writes}};
 
 /// A runnable of a job starts, finishes, reads and writes at most once.
 pub fn moments_are_unique()

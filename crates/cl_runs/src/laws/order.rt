@@ -1,15 +1,8 @@
 //! The moments of legal runs and the ideal moments are in order, and over them earliest readers and
 //! latest writers rise.
 ghost use Rattle.std.specs.Prelude.{ℕ, ◌<◌, ◌≤◌, List, length};
-ghost use Rattle.cl_model.specs.declared.group.Group.{Group};
-ghost use Rattle.cl_model.specs.declared.group.Step.{Step};
-ghost use Rattle.cl_model.specs.Groups.{groups, group_at};
-ghost use Rattle.cl_runs.specs.TaskTiming.{System, IsSound};
-ghost use Rattle.cl_runs.specs.Run.{Run};
-ghost use Rattle.cl_runs.specs.Legal.{IsLegal};
-ghost use Rattle.cl_runs.specs.Chains.{IsEarliestReader, IsLatestWriter};
-ghost use Rattle.cl_runs.specs.MomentOrder.{AreInOrder, HaveReadBeforeWriting, AreGroupsOf};
-ghost use Rattle.cl_runs.specs.RunChains.{run_moments, ideal_moments};
+ghost use Rattle.cl_model.specs.{declared.group.{Group.Group, Step.Step}, Groups.{groups, group_at}};
+ghost use Rattle.cl_runs.specs.{TaskTiming.{System, IsSound}, Run.Run, Legal.IsLegal, Chains.{IsEarliestReader, IsLatestWriter}, MomentOrder.{AreInOrder, HaveReadBeforeWriting, AreGroupsOf}, RunChains.{run_moments, ideal_moments}};
 
 /// In a legal run the jobs of any groups read and write at most once and in order, and those of a
 /// chain's groups read before they write.

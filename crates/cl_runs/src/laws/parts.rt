@@ -1,11 +1,7 @@
 //! Parts of complete chains.
 ghost use Rattle.std.specs.Prelude.{ℕ, ◌+◌, ◌-◌, ◌<◌, ◌≤◌, List, length, take, drop, slice_index};
-ghost use Rattle.cl_runs.specs.TaskTiming.{System};
-ghost use Rattle.cl_runs.specs.Run.{Run};
-ghost use Rattle.cl_model.specs.declared.group.Group.{Group};
-ghost use Rattle.cl_model.specs.Groups.{group_at};
-ghost use Rattle.cl_runs.specs.Chains.{JobChain, IsForwardChain};
-ghost use Rattle.cl_runs.specs.RunChains.{run_moments};
+ghost use Rattle.cl_runs.specs.{TaskTiming.System, Run.Run, Chains.{JobChain, IsForwardChain}, RunChains.run_moments};
+ghost use Rattle.cl_model.specs.{declared.group.Group.Group, Groups.group_at};
 
 /// Consecutive groups of a complete forward chain, with their jobs, form a complete forward chain
 /// of their own: from a read of the job before the first of these jobs to a write of the last of

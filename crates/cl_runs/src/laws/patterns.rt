@@ -1,11 +1,7 @@
 //! The gaps of well-formed patterns, and what holds of the jobs that follow a pattern.
 ghost use Rattle.std.specs.Prelude.{ℕ, suc, ◌+◌, ◌<◌, ◌≤◌, List, length};
-ghost use Rattle.cl_model.specs.declared.stimulus.StimulusKind.{StimulusKind};
-ghost use Rattle.cl_model.specs.Timing.{least_distance, greatest_distance, greatest_jitter};
-ghost use Rattle.cl_runs.specs.declared.job.Job.{Job};
-ghost use Rattle.cl_runs.specs.Pattern.{IsPattern, first_least, first_greatest, least_gap, greatest_gap};
-ghost use Rattle.cl_runs.specs.Arrivals.{FollowPattern};
-ghost use Rattle.cl_runs.specs.Table.{job_at};
+ghost use Rattle.cl_model.specs.{declared.stimulus.StimulusKind.StimulusKind, Timing.{least_distance, greatest_distance, greatest_jitter}};
+ghost use Rattle.cl_runs.specs.{declared.job.Job.Job, Pattern.{IsPattern, first_least, first_greatest, least_gap, greatest_gap}, Arrivals.FollowPattern, Table.job_at};
 
 /// The least distance of a well-formed pattern is at least one tick, and each gap lies between the
 /// least and the greatest distance. The least first arrival and the least gap after a job are at

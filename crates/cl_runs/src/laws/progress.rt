@@ -1,12 +1,7 @@
 //! Progress: the executed ticks of a task never exceed its released work, and a runnable finishes
 //! where they reach the work up to it.
 ghost use Rattle.std.specs.Prelude.{◌≡◌, ℕ, suc, Some, ◌+◌, ◌-◌, ◌<◌, ◌≤◌, length};
-ghost use Rattle.cl_runs.specs.TaskTiming.{System, timing_at, IsSound};
-ghost use Rattle.cl_runs.specs.Table.{job_at};
-ghost use Rattle.cl_runs.specs.Run.{Run, jobs_of, core_entries, entry_at, executed};
-ghost use Rattle.cl_runs.specs.Legal.{released, IsLegal};
-ghost use Rattle.cl_runs.specs.Work.{work_before, work_through};
-ghost use Rattle.cl_runs.specs.Moments.{Starts, Finishes, HasStartedBefore};
+ghost use Rattle.cl_runs.specs.{TaskTiming.{System, timing_at, IsSound}, Table.job_at, Run.{Run, jobs_of, core_entries, entry_at, executed}, Legal.{released, IsLegal}, Work.{work_before, work_through}, Moments.{Starts, Finishes, HasStartedBefore}};
 
 /// The executed ticks of a task are 0 at first, grow by one in each tick in which the task runs,
 /// and stay in each other tick.

@@ -1,10 +1,7 @@
 //! The system of a model: what the laws of runs ask of a system holds of each valid model.
 ghost use Rattle.std.specs.Prelude.{◌≡◌, ℕ, ◌<◌, length};
-ghost use Rattle.cl_model.specs.declared.model.SystemModel.{SystemModel};
-ghost use Rattle.cl_model.specs.ByNumber.{task_at};
-ghost use Rattle.cl_model.specs.Validity.{IsValid};
-ghost use Rattle.cl_runs.specs.TaskTiming.{timing_at, IsSound};
-ghost use Rattle.cl_runs.specs.SystemOf.{timing_of, system_of};
+ghost use Rattle.cl_model.specs.{declared.model.SystemModel.SystemModel, ByNumber.task_at, Validity.IsValid};
+ghost use Rattle.cl_runs.specs.{TaskTiming.{timing_at, IsSound}, SystemOf.{timing_of, system_of}};
 
 /// The system of a model has as many cores and tasks as the model, and the timing of each task at
 /// the task's number.

@@ -1,8 +1,6 @@
 //! At most one legal run for each job table.
 ghost use Rattle.std.specs.Prelude.{◌≡◌};
-ghost use Rattle.cl_runs.specs.TaskTiming.{System, IsSound};
-ghost use Rattle.cl_runs.specs.Run.{Run};
-ghost use Rattle.cl_runs.specs.Legal.{IsLegal};
+ghost use Rattle.cl_runs.specs.{TaskTiming.{System, IsSound}, Run.Run, Legal.IsLegal};
 
 /// A job table has at most one legal run.
 pub fn one_run_a_table()

@@ -1,16 +1,8 @@
 -- How the progress of a core begins, and what a task's executing changes. Times are in ticks.
 use Rattle.std.specs.Prelude.{◌≡◌, ◌≢◌, ◌↔◌, ℕ, Some, ◌+◌, ◌<◌, List, length}
-use Rattle.cl_model.specs.declared.model.SystemModel.{SystemModel}
-use Rattle.cl_model.specs.declared.task.RunnableDef.{RunnableDef}
-use Rattle.cl_model.specs.ByNumber.{task_at}
-use Rattle.cl_runs.specs.TaskTiming.{System}
-use Rattle.cl_runs.specs.declared.job.Job.{Job}
-use Rattle.cl_runs.specs.declared.job.JobTable.{JobTable}
-use Rattle.cl_runs.specs.Table.{job_at, table_jobs}
-use Rattle.cl_sched.specs.declared.progress.Progress.{Progress}
-use Rattle.cl_sched.specs.declared.core_progress.CoreProgress.{CoreProgress}
-use Rattle.cl_sched.specs.Progress.{IsAtRunnable, HasComeTo}
-use Rattle.cl_sched.specs.CoreProgress.{progress_at, Holds}
+use Rattle.cl_model.specs.{declared.{model.SystemModel.SystemModel, task.RunnableDef.RunnableDef}, ByNumber.task_at}
+use Rattle.cl_runs.specs.{TaskTiming.System, declared.job.{Job.Job, JobTable.JobTable}, Table.{job_at, table_jobs}}
+use Rattle.cl_sched.specs.{declared.{progress.Progress.Progress, core_progress.CoreProgress.CoreProgress}, Progress.{IsAtRunnable, HasComeTo}, CoreProgress.{progress_at, Holds}}
 
 -- how far a task has come at tick 0
 pub record IsUnbegun (model : SystemModel) (table : JobTable) (task : ℕ) (progress : Progress) : Type 0 where

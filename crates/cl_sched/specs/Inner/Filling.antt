@@ -1,9 +1,6 @@
 -- Which entries of a run are filled with what is scheduled.
 use Rattle.std.specs.Prelude.{◌≡◌, ◌≢◌, ℕ, Bool, true, false, Option, None, ◌<◌, List, length, replicate, slice_index_or, take}
-use Rattle.cl_runs.specs.TaskTiming.{System}
-use Rattle.cl_runs.specs.declared.job.JobTable.{JobTable}
-use Rattle.cl_runs.specs.Run.{Run, core_entries}
-use Rattle.cl_runs.specs.Legal.{IsScheduled}
+use Rattle.cl_runs.specs.{TaskTiming.System, declared.job.JobTable.JobTable, Run.{Run, core_entries}, Legal.IsScheduled}
 use Rattle.cl_sched.specs.CoreProgress.{ticks_of}
 
 -- each entry of a core is the one that is scheduled after the entries before it

@@ -1,7 +1,6 @@
 -- Jobs that take time.
 use Rattle.std.specs.Prelude.{ℕ, ◌<◌, ◌≤◌, List, length, slice_index}
-use Rattle.cl_runs.specs.declared.job.Job.{Job}
-use Rattle.cl_runs.specs.Table.{job_at}
+use Rattle.cl_runs.specs.{declared.job.Job.Job, Table.job_at}
 
 -- each job has a runnable, and each of its runnables takes a tick at least
 pub record TakeTime (jobs : List Job) : Type 0 where

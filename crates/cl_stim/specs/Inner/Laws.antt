@@ -1,14 +1,9 @@
 -- The laws of `Arrivals`, over the kind of the stimulus.
 use Rattle.std.proofs.Common.{ℕ, ◌≤◌, List, arith}
-use Rattle.cl_model.specs.declared.stimulus.StimulusKind.{StimulusKind}
-use Rattle.cl_model.specs.Timing.{least_distance, greatest_distance, greatest_jitter}
-use Rattle.cl_runs.specs.declared.job.Job.{Job}
-use Rattle.cl_runs.specs.Arrivals.{FollowPattern}
+use Rattle.cl_model.specs.{declared.stimulus.StimulusKind.StimulusKind, Timing.{least_distance, greatest_distance, greatest_jitter}}
+use Rattle.cl_runs.specs.{declared.job.Job.Job, Arrivals.FollowPattern}
 use Rattle.cl_runs.proofs.ArrivalFacts.{arrivals_apart, next_within, end_within, released_late, released_within}
-use Rattle.cl_stim.specs.Stimulus.{IsStimulus}
-use Rattle.cl_stim.specs.Releases.{most_releases}
-use Rattle.cl_stim.specs.Jobs.{AreFew, HaveGaps, ReachEnd, AreReleased}
-use Rattle.cl_stim.specs.Inner.Releases.{well_formed, most_rises, few_releases}
+use Rattle.cl_stim.specs.{Stimulus.IsStimulus, Releases.most_releases, Jobs.{AreFew, HaveGaps, ReachEnd, AreReleased}, Inner.Releases.{well_formed, most_rises, few_releases}}
 
 pub never_falls : (kind : StimulusKind) → IsStimulus kind → (narrow wide : ℕ) → narrow ≤ wide → most_releases kind narrow ≤ most_releases kind wide
 never_falls kind known = most_rises kind

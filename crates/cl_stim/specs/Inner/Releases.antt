@@ -5,21 +5,11 @@ use Rattle.std.proofs.lemmas.Bool.{cases_lt, cases_eq}
 use Rattle.std.proofs.lemmas.Grind.{div_ceil_times}
 use Rattle.std.proofs.lemmas.Nat.{le-div, div-add-mod'}
 use Rattle.std.proofs.Math.Nat.{mul-le-mul_right, div-zero, mod-zero, div-mul-le_self}
-use Rattle.cl_model.specs.declared.stimulus.StimulusKind.{StimulusKind}
-use Rattle.cl_model.specs.declared.stimulus.StimulusKind.TheVariants.{Periodic, Sporadic, Burst}
-use Rattle.cl_model.specs.Timing.{least_distance, greatest_jitter}
-use Rattle.cl_runs.specs.declared.job.Job.{Job}
-use Rattle.cl_runs.specs.Pattern.{IsPattern}
-use Rattle.cl_runs.specs.Arrivals.{FollowPattern}
-use Rattle.cl_runs.specs.Table.{job_at}
-use Rattle.cl_runs.proofs.ArrivalFacts.{arrivals_apart, released_late, released_within}
-use Rattle.cl_runs.proofs.PatternFacts.{distance_positive}
-use Rattle.cl_runs.proofs.BurstLaws.{bursts_apart}
+use Rattle.cl_model.specs.{declared.stimulus.StimulusKind.{StimulusKind, TheVariants.{Periodic, Sporadic, Burst}}, Timing.{least_distance, greatest_jitter}}
+use Rattle.cl_runs.specs.{declared.job.Job.Job, Pattern.IsPattern, Arrivals.FollowPattern, Table.job_at}
+use Rattle.cl_runs.proofs.{ArrivalFacts.{arrivals_apart, released_late, released_within}, PatternFacts.distance_positive, BurstLaws.bursts_apart}
 use Rattle.cl_runs.proofs.ModelSystem as model_system
-use Rattle.cl_stim.specs.Stimulus.{IsStimulus}
-use Rattle.cl_stim.specs.Jobs.{AreReleased}
-use Rattle.cl_stim.specs.Releases.{releases_in, most_releases}
-use Rattle.cl_stim.specs.Inner.Windows.{AreApart, few_in, window_split}
+use Rattle.cl_stim.specs.{Stimulus.IsStimulus, Jobs.AreReleased, Releases.{releases_in, most_releases}, Inner.Windows.{AreApart, few_in, window_split}}
 
 -- the pattern of a valid model's stimulus is well formed
 pub well_formed : (kind : StimulusKind) → IsStimulus kind → IsPattern kind

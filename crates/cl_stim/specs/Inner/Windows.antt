@@ -3,10 +3,8 @@ use Rattle.std.proofs.Common.{◌≡◌, ℕ, zero, suc, ◌+◌, ◌*◌, ◌<�
 use Rattle.std.proofs.lemmas.Bool.{cases_Bool, cases_lt, and_parts, ltb-true, leb-true, cond-true, cond-false}
 use Rattle.std.proofs.lemmas.Bool.Decides.{nat_tests}
 use Rattle.std.proofs.lemmas.List.Sums.{sum_by-cons}
-use Rattle.cl_runs.specs.declared.job.Job.{Job}
-use Rattle.cl_runs.specs.Table.{job_at}
-use Rattle.cl_stim.specs.Jobs.{AreReleased}
-use Rattle.cl_stim.specs.Releases.{releases_in}
+use Rattle.cl_runs.specs.{declared.job.Job.Job, Table.job_at}
+use Rattle.cl_stim.specs.{Jobs.AreReleased, Releases.releases_in}
 
 -- ---- what a window counts
 

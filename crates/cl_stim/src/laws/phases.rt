@@ -1,12 +1,8 @@
 //! Phases: their first and last arrivals about a moment, and how the jobs of runs keep to them.
 ghost use Rattle.std.specs.Prelude.{◌≡◌, ℕ, suc, ℤ, pos, ◌+ℤ◌, ◌≤ℤ◌, ◌<◌, Some, length};
 ghost use Rattle.cl_model.specs.Timing.{greatest_distance};
-ghost use Rattle.cl_runs.specs.TaskTiming.{System, IsSound, timing_at};
-ghost use Rattle.cl_runs.specs.Table.{job_at};
-ghost use Rattle.cl_runs.specs.Run.{Run, jobs_of};
-ghost use Rattle.cl_runs.specs.Legal.{IsLegal};
-ghost use Rattle.cl_stim.specs.declared.phase.Phase.{Phase};
-ghost use Rattle.cl_stim.specs.Phase.{IsPhase, IsArrivalOf, AreConsecutive, phase_of, first_arrival, last_arrival};
+ghost use Rattle.cl_runs.specs.{TaskTiming.{System, IsSound, timing_at}, Table.job_at, Run.{Run, jobs_of}, Legal.IsLegal};
+ghost use Rattle.cl_stim.specs.{declared.phase.Phase.Phase, Phase.{IsPhase, IsArrivalOf, AreConsecutive, phase_of, first_arrival, last_arrival}};
 
 /// The first arrival of a phase at or after a moment is an arrival of the phase, isn't before the
 /// moment, and isn't after any other arrival at or after the moment.

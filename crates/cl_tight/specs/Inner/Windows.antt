@@ -1,7 +1,6 @@
 -- The window that an answer has.
 use Rattle.std.specs.Prelude.{ℕ, Option, Some, None}
-use Rattle.cl_bound.specs.declared.answer.TaskAnswer.{TaskAnswer}
-use Rattle.cl_bound.specs.declared.answer.TaskAnswer.TheVariants.{Settled, Late}
+use Rattle.cl_bound.specs.declared.answer.TaskAnswer.{TaskAnswer, TheVariants.{Settled, Late}}
 
 -- that of a settled task
 abbrev pub window_in : TaskAnswer → Option ℕ

@@ -1,20 +1,11 @@
 //! Exact lengths: where the report computes them, tight bounds are exact.
 ghost use Rattle.std.specs.Prelude.{◌≡◌, ℕ, ◌<◌, ◌≤◌, true, List, length, All};
-ghost use Rattle.cl_model.specs.declared.group.Group.{Group};
-ghost use Rattle.cl_model.specs.declared.limits.TheConstants.{MOST_STEPS};
-ghost use Rattle.cl_model.specs.declared.model.SystemModel.{SystemModel};
-ghost use Rattle.cl_model.specs.Groups.{IsGroupOf, groups_at};
-ghost use Rattle.cl_model.specs.Kinds.{is_timed};
-ghost use Rattle.cl_model.specs.Validity.{IsValid};
-ghost use Rattle.cl_runs.specs.SystemOf.{system_of};
-ghost use Rattle.cl_runs.specs.TaskTiming.{System, timing_at};
-ghost use Rattle.cl_exact.specs.TimedPeriodic.{are_timed_periodic, is_timed_periodic_chain};
-ghost use Rattle.cl_exact.specs.Hyperperiod.{IsWithinLimit};
-ghost use Rattle.cl_exact.specs.ExactLengths.{Witnesses, AreExactLengths};
+ghost use Rattle.cl_model.specs.{declared.{group.Group.Group, limits.TheConstants.MOST_STEPS, model.SystemModel.SystemModel}, Groups.{IsGroupOf, groups_at}, Kinds.is_timed, Validity.IsValid};
+ghost use Rattle.cl_runs.specs.{SystemOf.system_of, TaskTiming.{System, timing_at}};
+ghost use Rattle.cl_exact.specs.{TimedPeriodic.{are_timed_periodic, is_timed_periodic_chain}, Hyperperiod.IsWithinLimit, ExactLengths.{Witnesses, AreExactLengths}};
 ghost use Rattle.cl_bound.specs.declared.group_timing.GroupTiming.{GroupTiming};
 ghost use Rattle.cl_phase.specs.TightBounds.{tight_bounds};
-ghost use Rattle.cl_tight.specs.ExactBounds.{AreLengthsOf, IsTimedTiming};
-ghost use Rattle.cl_tight.specs.TightTimings.{tight_timing};
+ghost use Rattle.cl_tight.specs.{ExactBounds.{AreLengthsOf, IsTimedTiming}, TightTimings.tight_timing};
 
 /// If the tasks of a chain of a valid model, or of a part of one, are all timed and periodic, and
 /// their hyperperiod is within the limit, the tight bounds are the exact lengths, over any timings

@@ -1,19 +1,11 @@
 //! What is found where times are longer: nothing that isn't met becomes met.
 ghost use Rattle.std.specs.Prelude.{◌≡◌, ℕ, true, false, All};
-ghost use Rattle.cl_model.specs.declared.model.SystemModel.{SystemModel};
-ghost use Rattle.cl_model.specs.Groups.{groups_at};
-ghost use Rattle.cl_model.specs.Validity.{IsValid};
-ghost use Rattle.cl_runs.specs.Requirements.{requirement_at, required_chain};
-ghost use Rattle.cl_runs.specs.SystemOf.{system_of};
+ghost use Rattle.cl_model.specs.{declared.model.SystemModel.SystemModel, Groups.groups_at, Validity.IsValid};
+ghost use Rattle.cl_runs.specs.{Requirements.{requirement_at, required_chain}, SystemOf.system_of};
 ghost use Rattle.cl_resp.specs.LesserTimes.{TakesNoMore};
-ghost use Rattle.cl_bound.specs.Answers.{answer_at, is_late};
-ghost use Rattle.cl_bound.specs.Bounds.{Lengths};
-ghost use Rattle.cl_bound.specs.NoGreater.{AreNoGreater};
-ghost use Rattle.cl_analyse.specs.declared.findings.ChainAnswer.TheVariants.{Bounds};
-ghost use Rattle.cl_analyse.specs.ChainAnswers.{chain_answer_at};
-ghost use Rattle.cl_analyse.specs.Verdicts.{verdict_at, is_met};
-ghost use Rattle.cl_tight.specs.LongerTimes.{IsNoLonger, DifferInGreatestTimes};
-ghost use Rattle.cl_tight.specs.TightFindings.{tight_findings_of};
+ghost use Rattle.cl_bound.specs.{Answers.{answer_at, is_late}, Bounds.Lengths, NoGreater.AreNoGreater};
+ghost use Rattle.cl_analyse.specs.{declared.findings.ChainAnswer.TheVariants.Bounds, ChainAnswers.chain_answer_at, Verdicts.{verdict_at, is_met}};
+ghost use Rattle.cl_tight.specs.{LongerTimes.{IsNoLonger, DifferInGreatestTimes}, TightFindings.tight_findings_of};
 
 /// Longer times meet no more. A task that isn't late isn't late either where it and what it waits
 /// for take no longer. Where that is so of each group of a chain, the chain has bounds that are no

@@ -1,23 +1,12 @@
 //! What tight bounds know of groups by the phases of their cores: that it holds in every legal run,
 //! and that it is no less than what responses alone say.
 ghost use Rattle.std.specs.Prelude.{◌≡◌, false, List, All};
-ghost use Rattle.cl_model.specs.declared.group.Group.{Group};
-ghost use Rattle.cl_model.specs.declared.model.SystemModel.{SystemModel};
-ghost use Rattle.cl_model.specs.Groups.{IsGroupOf};
-ghost use Rattle.cl_model.specs.Validity.{IsValid};
-ghost use Rattle.cl_runs.specs.SystemOf.{system_of};
-ghost use Rattle.cl_runs.specs.TaskTiming.{System, IsSound};
+ghost use Rattle.cl_model.specs.{declared.{group.Group.Group, model.SystemModel.SystemModel}, Groups.IsGroupOf, Validity.IsValid};
+ghost use Rattle.cl_runs.specs.{SystemOf.system_of, TaskTiming.{System, IsSound}};
 ghost use Rattle.cl_lead.specs.LeastTimes.{HaveSameLeastTimes};
-ghost use Rattle.cl_bound.specs.Answers.{answers_of, answer_at, is_late, NoneIsLate};
-ghost use Rattle.cl_bound.specs.Bounds.{settled_timing};
-ghost use Rattle.cl_bound.specs.Hops.{group_timing};
-ghost use Rattle.cl_bound.specs.NoGreater.{StaysWithin, AreNoGreater};
-ghost use Rattle.cl_bound.specs.SettledChains.{IsGroupOfTask};
-ghost use Rattle.cl_bound.specs.Timings.{AlwaysKeeps};
+ghost use Rattle.cl_bound.specs.{Answers.{answers_of, answer_at, is_late, NoneIsLate}, Bounds.settled_timing, Hops.group_timing, NoGreater.{StaysWithin, AreNoGreater}, SettledChains.IsGroupOfTask, Timings.AlwaysKeeps};
 ghost use Rattle.cl_phase.specs.TightBounds.{tight_bounds};
-ghost use Rattle.cl_tight.specs.LongerTimes.{IsNoLonger};
-ghost use Rattle.cl_tight.specs.TightAnswers.{tight_answers_of, tight_response};
-ghost use Rattle.cl_tight.specs.TightTimings.{tight_timing};
+ghost use Rattle.cl_tight.specs.{LongerTimes.IsNoLonger, TightAnswers.{tight_answers_of, tight_response}, TightTimings.tight_timing};
 
 /// What tight bounds know of a group of a valid model always holds, if its task isn't late by
 /// phases: each job reads at the lead or later, and has written by its latest write.

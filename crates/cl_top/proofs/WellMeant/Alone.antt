@@ -1,10 +1,8 @@
 -- The commands that name no file.
 use Rattle.std.proofs.Common.{◌≡◌, ℕ, ◌+◌, ◌≤◌, inl, inr, List, refl, sym, ◌∙◌, arith}
 use Rattle.cl_analyse.proofs.SomeFindings.{some_findings}
-use Rattle.cl_gen.specs.Words.{word_of}
-use Rattle.cl_gen.specs.Generated.{generated}
-use Rattle.cl_gen.proofs.GeneratedRanges.{are_named}
-use Rattle.cl_gen.proofs.ValidGenerated.{words_valid}
+use Rattle.cl_gen.specs.{Words.word_of, Generated.generated}
+use Rattle.cl_gen.proofs.{GeneratedRanges.are_named, ValidGenerated.words_valid}
 use Rattle.cl_report.specs.Survey.{survey_text, IsSurveyOf}
 use Rattle.cl_report.proofs.OneSurvey.{one_survey}
 use Rattle.cl_write.specs.Texts.{IsTextOf}
@@ -13,10 +11,8 @@ use Rattle.cl_engine.specs.declared.files.Files.TheVariants as files
 use Rattle.cl_engine.specs.Done.{IsDone}
 use Rattle.cl_engine.proofs.Outcomes.{SomeOutcome}
 use Rattle.cl_top.specs.declared.command.Command.TheVariants as command
-use Rattle.cl_top.specs.Commands.{saying, meaning_of}
-use Rattle.cl_top.specs.Meaning.{no_step, model_steps, no_promise, equal, WritesTheSame}
-use Rattle.cl_top.proofs.Meanings.{IsMeantWell, done_some, done_once, alone_well}
-use Rattle.cl_top.proofs.Words.{IsFew}
+use Rattle.cl_top.specs.{Commands.{saying, meaning_of}, Meaning.{no_step, model_steps, no_promise, equal, WritesTheSame}}
+use Rattle.cl_top.proofs.{Meanings.{IsMeantWell, done_some, done_once, alone_well}, Words.IsFew}
 
 -- what writes a text that is given
 pub saying_well : (text : List ℕ) → IsMeantWell files.Nothing (saying text) (Unit {0})

@@ -1,28 +1,13 @@
 -- `apply`: the model after all edits.
 use Rattle.std.proofs.Common.{◌≡◌, ℕ, inl, inr, List, length, Ok, refl, ap, ◌∙◌, arith}
 use Rattle.std.proofs.lemmas.List.{take_all}
-use Rattle.cl_model.specs.declared.model.SystemModel.{SystemModel}
-use Rattle.cl_model.specs.AreNamed.{AreNamed}
-use Rattle.cl_model.specs.Validity.{IsValid}
-use Rattle.cl_edit.specs.declared.edit.Edit.{Edit}
-use Rattle.cl_edit.specs.declared.edit_lines.ListedEdit.{ListedEdit}
-use Rattle.cl_edit.specs.Edited.{after}
-use Rattle.cl_edit.specs.Reading.{edits_of, AreEditsOf}
+use Rattle.cl_model.specs.{declared.model.SystemModel.SystemModel, AreNamed.AreNamed, Validity.IsValid}
+use Rattle.cl_edit.specs.{declared.{edit.Edit.Edit, edit_lines.ListedEdit.ListedEdit}, Edited.after, Reading.{edits_of, AreEditsOf}}
 use Rattle.cl_write.proofs.SomeTexts.{some_text}
 use Rattle.cl_engine.specs.declared.files.Files.TheVariants as files
-use Rattle.cl_engine.specs.declared.files.TheConstants.{FILE_LIMIT}
-use Rattle.cl_engine.specs.declared.outcome.Outcome.{Outcome}
-use Rattle.cl_engine.specs.declared.status.TheConstants.{DONE}
-use Rattle.cl_engine.specs.Language.{IsOfContent}
-use Rattle.cl_top.specs.Commands.Apply.{all_written, refused_alone, IsOfApply, HoldsEdited, applying}
-use Rattle.cl_top.specs.Commands.Edit.{edits_refused, bad_line}
-use Rattle.cl_top.specs.OfEdits.{line_at}
-use Rattle.cl_top.specs.Meaning.{no_step, promises_of_both, WritesTheSame}
-use Rattle.cl_top.proofs.Applied.{some_applied, applied_alike}
-use Rattle.cl_top.proofs.WellMeant.Edit.{seven_content}
-use Rattle.cl_top.proofs.EditsAlike.{listed_in_range}
-use Rattle.cl_top.proofs.Meanings.{IsMeantWell, both_well}
-use Rattle.cl_top.proofs.EditPieces.{valid_after}
+use Rattle.cl_engine.specs.{declared.{files.TheConstants.FILE_LIMIT, outcome.Outcome.Outcome, status.TheConstants.DONE}, Language.IsOfContent}
+use Rattle.cl_top.specs.{Commands.{Apply.{all_written, refused_alone, IsOfApply, HoldsEdited, applying}, Edit.{edits_refused, bad_line}}, OfEdits.line_at, Meaning.{no_step, promises_of_both, WritesTheSame}}
+use Rattle.cl_top.proofs.{Applied.{some_applied, applied_alike}, WellMeant.Edit.seven_content, EditsAlike.listed_in_range, Meanings.{IsMeantWell, both_well}, EditPieces.valid_after}
 
 status_of : (found other : Outcome) → found ≡ other → found.status ≡ other.status
 status_of found other is = ap (λ (o : Outcome). o.status) is

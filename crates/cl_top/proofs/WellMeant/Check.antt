@@ -1,17 +1,11 @@
 -- `check`: what to mend in a model file, or what to know of it.
 use Rattle.std.proofs.Common.{◌≡◌, ◌⊎◌, ℕ, ◌+◌, ◌≤◌, inl, inr, List, Option, Some, None, Result, Ok, Err, refl, sym, ◌∙◌, arith}
-use Rattle.cl_model.specs.declared.model.SystemModel.{SystemModel}
-use Rattle.cl_model.specs.declared.refusal.Refusal.{Refusal}
-use Rattle.cl_model.specs.Reading.{model_of}
-use Rattle.cl_model.specs.Validity.{refusal_of}
+use Rattle.cl_model.specs.{declared.{model.SystemModel.SystemModel, refusal.Refusal.Refusal}, Reading.model_of, Validity.refusal_of}
 use Rattle.cl_advice.proofs.SomeAdvice.{some_advice}
 use Rattle.cl_explain.specs.Accepted.{accepted_text}
 use Rattle.cl_explain.proofs.SafelyExplained.{safe_acceptance}
 use Rattle.cl_engine.specs.declared.files.Files.TheVariants as files
-use Rattle.cl_engine.specs.declared.outcome.Outcome.{Outcome}
-use Rattle.cl_engine.specs.declared.status.TheConstants.{DONE, MODEL_REFUSED}
-use Rattle.cl_engine.specs.Content.{Bytes, MeansModel, of_bytes}
-use Rattle.cl_engine.specs.Outcome.{refusal_line, MayEnd}
+use Rattle.cl_engine.specs.{declared.{outcome.Outcome.Outcome, status.TheConstants.{DONE, MODEL_REFUSED}}, Content.{Bytes, MeansModel, of_bytes}, Outcome.{refusal_line, MayEnd}}
 use Rattle.cl_engine.proofs.Openings.{valid_read}
 use Rattle.cl_top.specs.Commands.Check.{IsAdvised, ValidityChecks, ReadingChecks, IsChecked, ChecksTheSame, read_steps, IsSafeAdvice, checking}
 use Rattle.cl_top.proofs.Meanings.{IsMeantWell, done_some, done_once, bytes_well}

@@ -2,50 +2,22 @@
 use Rattle.std.proofs.Common.{◌≡◌, ◌⊎◌, ℕ, ◌+◌, ◌≤◌, inl, inr, Bool, true, false, List, length, Option, Some, None, refl, sym, ap, ◌∙◌, subst, arith}
 use Rattle.std.specs.Prelude.{nat_lt}
 use Rattle.std.proofs.lemmas.Bool.{ltb-true}
-use Rattle.cl_model.specs.AreNamed.{AreNamed}
-use Rattle.cl_model.specs.declared.model.SystemModel.{SystemModel}
-use Rattle.cl_model.specs.Reading.{model_of}
-use Rattle.cl_model.specs.Validity.{IsValid}
-use Rattle.cl_edit.specs.declared.version.Version.{Version}
-use Rattle.cl_edit.specs.Said.{version_named}
-use Rattle.cl_runs.specs.Legal.{IsLegal}
-use Rattle.cl_runs.specs.Run.{Run}
-use Rattle.cl_runs.specs.SystemOf.{system_of}
+use Rattle.cl_model.specs.{AreNamed.AreNamed, declared.model.SystemModel.SystemModel, Reading.model_of, Validity.IsValid}
+use Rattle.cl_edit.specs.{declared.version.Version.Version, Said.version_named}
+use Rattle.cl_runs.specs.{Legal.IsLegal, Run.Run, SystemOf.system_of}
 use Rattle.cl_runs.proofs.ModelSystem.{system_sound}
-use Rattle.cl_check.specs.declared.run_fault.RunFault.{RunFault}
-use Rattle.cl_check.specs.declared.run_fault.RunFault.TheVariants.{Illegal, NoMemory}
-use Rattle.cl_observe.proofs.OneRule.{fault_once}
+use Rattle.cl_check.specs.declared.run_fault.RunFault.{RunFault, TheVariants.{Illegal, NoMemory}}
+use Rattle.cl_observe.proofs.{OneRule.fault_once, LegalOrBroken.{IsBroken, legal_or_broken}}
 use Rattle.cl_trace.specs.Rules.{IsTraceOf}
-use Rattle.cl_trace.proofs.OneReading.{bad_once}
-use Rattle.cl_trace.proofs.OneTrace.{one_run, no_bad_line}
-use Rattle.cl_trace.proofs.SomeAnswer.{HasAnswer, some_answer}
-use Rattle.cl_traces.specs.BadTraceLines.{bad_trace_text}
-use Rattle.cl_traces.specs.SaidOfRules.{IsSaidOfRule}
-use Rattle.cl_traces.specs.Titles.{is_titled_trace}
-use Rattle.cl_traces.proofs.OneText.{one_text}
-use Rattle.cl_traces.proofs.SomeSaid.{some_said}
+use Rattle.cl_trace.proofs.{OneReading.bad_once, OneTrace.{one_run, no_bad_line}, SomeAnswer.{HasAnswer, some_answer}}
+use Rattle.cl_traces.specs.{BadTraceLines.bad_trace_text, SaidOfRules.IsSaidOfRule, Titles.is_titled_trace}
+use Rattle.cl_traces.proofs.{OneText.one_text, SomeSaid.some_said}
 use Rattle.cl_engine.specs.declared.files.Files.TheVariants as files
-use Rattle.cl_engine.specs.declared.files.TheConstants.{FILE_LIMIT}
-use Rattle.cl_engine.specs.declared.outcome.Outcome.{Outcome}
-use Rattle.cl_engine.specs.declared.status.TheConstants.{DONE}
-use Rattle.cl_engine.specs.Content.{Bytes, ModelAnd}
-use Rattle.cl_engine.specs.Language.{IsOfContent}
-use Rattle.cl_engine.specs.Outcome.{long_file, MayEnd}
+use Rattle.cl_engine.specs.{declared.{files.TheConstants.FILE_LIMIT, outcome.Outcome.Outcome, status.TheConstants.DONE}, Content.{Bytes, ModelAnd}, Language.IsOfContent, Outcome.{long_file, MayEnd}}
 use Rattle.cl_engine.proofs.Outcomes.{SomeOutcome}
-use Rattle.cl_top.specs.declared.command.TheConstants.{TRACE_LIMIT}
-use Rattle.cl_top.specs.Commands.Check.{IsChecked, ChecksTheSame, read_steps, IsSafeAdvice}
-use Rattle.cl_top.specs.Commands.CheckFile.{accepted_file, IsAcceptedFile, with_said, all_accepted, edit_mended, line_mended, IsOfListFile, IsOfLimitedList, HasMendedRule, IsCheckedRun, IsOfTraceFile, no_title, FileChecks, IsFileChecked, IsRightFile, checking_file}
-use Rattle.cl_top.specs.OfEdits.{line_at, edit_at}
-use Rattle.cl_top.specs.OfTrace.{trace_refused, trace_illegal}
-use Rattle.cl_top.specs.Meaning.{of_either}
-use Rattle.cl_top.proofs.AnswersOfRuns.{none_broken}
-use Rattle.cl_top.proofs.Applied.{some_applied, applied_alike}
-use Rattle.cl_observe.proofs.LegalOrBroken.{IsBroken, legal_or_broken}
-use Rattle.cl_top.proofs.Meanings.{IsMeantWell, done_some, done_once, either_well}
-use Rattle.cl_top.proofs.OfTrace.{six_content}
-use Rattle.cl_top.proofs.WellMeant.Apply.{all_valid}
-use Rattle.cl_top.proofs.WellMeant.Check.{reading_some, reading_same, reading_status, reading_safe}
-use Rattle.cl_top.proofs.WellMeant.Edit.{seven_content}
+use Rattle.cl_top.specs.{declared.command.TheConstants.TRACE_LIMIT, Commands.{Check.{IsChecked, ChecksTheSame, read_steps, IsSafeAdvice}, CheckFile.{accepted_file, IsAcceptedFile, with_said, all_accepted, edit_mended, line_mended, IsOfListFile, IsOfLimitedList, HasMendedRule}}}
+use Rattle.cl_top.specs.{Commands.CheckFile.{IsCheckedRun, IsOfTraceFile, no_title, FileChecks, IsFileChecked, IsRightFile, checking_file}, OfEdits.{line_at, edit_at}, OfTrace.{trace_refused, trace_illegal}, Meaning.of_either}
+use Rattle.cl_top.proofs.{AnswersOfRuns.none_broken, Applied.{some_applied, applied_alike}, Meanings.{IsMeantWell, done_some, done_once, either_well}, OfTrace.six_content, WellMeant.{Apply.all_valid, Check.{reading_some, reading_same, reading_status, reading_safe}, Edit.seven_content}}
 
 -- the outcome of a file with which nothing is wrong
 accepted_some : SomeOutcome IsAcceptedFile

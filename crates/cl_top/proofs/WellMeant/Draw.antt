@@ -1,25 +1,15 @@
 -- `draw`: the picture of the run of a trace.
 use Rattle.std.proofs.Common.{◌≡◌, ◌⊎◌, ℕ, inl, inr, List, refl, sym, ap, ◌∙◌, arith}
 use Rattle.std.proofs.lemmas.Bool.{cases_lt}
-use Rattle.cl_model.specs.declared.model.SystemModel.{SystemModel}
-use Rattle.cl_model.specs.Validity.{IsValid}
-use Rattle.cl_runs.specs.Legal.{IsLegal}
-use Rattle.cl_runs.specs.Run.{Run}
-use Rattle.cl_runs.specs.SystemOf.{system_of}
+use Rattle.cl_model.specs.{declared.model.SystemModel.SystemModel, Validity.IsValid}
+use Rattle.cl_runs.specs.{Legal.IsLegal, Run.Run, SystemOf.system_of}
 use Rattle.cl_draw.specs.Picture.{IsPictureOf}
-use Rattle.cl_draw.proofs.OnePicture.{one_picture}
-use Rattle.cl_draw.proofs.SomePicture.{some_picture}
+use Rattle.cl_draw.proofs.{OnePicture.one_picture, SomePicture.some_picture}
 use Rattle.cl_engine.specs.declared.files.Files.TheVariants as files
-use Rattle.cl_engine.specs.declared.outcome.Outcome.{Outcome}
-use Rattle.cl_engine.specs.declared.status.TheConstants.{DONE}
-use Rattle.cl_engine.specs.Language.{IsOfContent}
+use Rattle.cl_engine.specs.{declared.{outcome.Outcome.Outcome, status.TheConstants.DONE}, Language.IsOfContent}
 use Rattle.cl_engine.proofs.Outcomes.{SomeOutcome}
-use Rattle.cl_top.specs.declared.command.TheConstants.{TRACE_LIMIT}
-use Rattle.cl_top.specs.Commands.Draw.{LiesWithin, window_refused, IsDrawn, IsOfDraw, IsSafePicture, drawing}
-use Rattle.cl_top.specs.Meaning.{no_step, promises_of_both, equal}
-use Rattle.cl_top.proofs.Meanings.{IsMeantWell, done_some, done_once, both_well}
-use Rattle.cl_top.proofs.OfTrace.{traced_content, done_trace}
-use Rattle.cl_top.proofs.TracesOnce.{trace_some, one_traced}
+use Rattle.cl_top.specs.{declared.command.TheConstants.TRACE_LIMIT, Commands.Draw.{LiesWithin, window_refused, IsDrawn, IsOfDraw, IsSafePicture, drawing}, Meaning.{no_step, promises_of_both, equal}}
+use Rattle.cl_top.proofs.{Meanings.{IsMeantWell, done_some, done_once, both_well}, OfTrace.{traced_content, done_trace}, TracesOnce.{trace_some, one_traced}}
 
 -- a window lies within a run of so many ticks, or it doesn't
 window_or_none : (from to ticks : ℕ) → LiesWithin from to ticks ⊎ (LiesWithin from to ticks → ⊥)

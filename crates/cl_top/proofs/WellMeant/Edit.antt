@@ -1,25 +1,12 @@
 -- `edit`: what is found of a model as it is edited.
 use Rattle.std.proofs.Common.{◌≡◌, ℕ, inl, inr, List, refl, sym, ◌∙◌, ap, arith}
 use Rattle.std.specs.List.{concat}
-use Rattle.cl_model.specs.declared.model.SystemModel.{SystemModel}
-use Rattle.cl_model.specs.declared.refusal.Code.TheVariants.{E1}
-use Rattle.cl_model.specs.Place.{top}
-use Rattle.cl_model.specs.Validity.{IsValid}
+use Rattle.cl_model.specs.{declared.{model.SystemModel.SystemModel, refusal.Code.TheVariants.E1}, Place.top, Validity.IsValid}
 use Rattle.cl_edit.specs.Reading.{edits_of}
 use Rattle.cl_engine.specs.declared.files.Files.TheVariants as files
-use Rattle.cl_engine.specs.declared.files.TheConstants.{FILE_LIMIT}
-use Rattle.cl_engine.specs.declared.outcome.Outcome.{Outcome}
-use Rattle.cl_engine.specs.declared.status.TheConstants.{DONE, EDITS_REFUSED}
-use Rattle.cl_engine.specs.Content.{of_both}
-use Rattle.cl_engine.specs.Language.{IsOfContent}
-use Rattle.cl_top.specs.OfEdits.{line_at}
-use Rattle.cl_top.specs.Commands.Edit.{edits_refused, refused_with, behind, IsOfEdits, AreSafeTexts, StopsSafely, EditTheSame, editing}
-use Rattle.cl_top.specs.Meaning.{promises_of_both}
-use Rattle.cl_top.specs.Steps.{AreFewOfEdits}
-use Rattle.cl_top.proofs.EditSteps.{few_of_none}
-use Rattle.cl_top.proofs.EditPieces.{safe_pieces}
-use Rattle.cl_top.proofs.EditsAlike.{listed_in_range, some_edits, edited_alike}
-use Rattle.cl_top.proofs.Meanings.{IsMeantWell, same_parts, both_well}
+use Rattle.cl_engine.specs.{declared.{files.TheConstants.FILE_LIMIT, outcome.Outcome.Outcome, status.TheConstants.{DONE, EDITS_REFUSED}}, Content.of_both, Language.IsOfContent}
+use Rattle.cl_top.specs.{OfEdits.line_at, Commands.Edit.{edits_refused, refused_with, behind, IsOfEdits, AreSafeTexts, StopsSafely, EditTheSame, editing}, Meaning.promises_of_both, Steps.AreFewOfEdits}
+use Rattle.cl_top.proofs.{EditSteps.few_of_none, EditPieces.safe_pieces, EditsAlike.{listed_in_range, some_edits, edited_alike}, Meanings.{IsMeantWell, same_parts, both_well}}
 
 status_of : (found other : Outcome) → found ≡ other → found.status ≡ other.status
 status_of found other is = ap (λ (o : Outcome). o.status) is

@@ -1,28 +1,14 @@
 -- `observe`: what the run of a trace shows.
 use Rattle.std.proofs.Common.{◌≡◌, ℕ, ◌+◌, ◌≤◌, inl, inr, List, refl, sym, ap, ◌∙◌, subst, arith}
-use Rattle.cl_model.specs.AreNamed.{AreNamed}
-use Rattle.cl_model.specs.declared.model.SystemModel.{SystemModel}
-use Rattle.cl_model.specs.Validity.{IsValid}
-use Rattle.cl_trace.proofs.OneReading.{bad_once}
-use Rattle.cl_trace.proofs.OneTrace.{one_run, no_bad_line}
-use Rattle.cl_trace.proofs.SomeAnswer.{HasAnswer, some_answer}
+use Rattle.cl_model.specs.{AreNamed.AreNamed, declared.model.SystemModel.SystemModel, Validity.IsValid}
+use Rattle.cl_trace.proofs.{OneReading.bad_once, OneTrace.{one_run, no_bad_line}, SomeAnswer.{HasAnswer, some_answer}}
 use Rattle.cl_observe.specs.Observed.{IsObservationOf}
-use Rattle.cl_observe.proofs.OneObservation.{one_observation}
-use Rattle.cl_observe.proofs.SomeObservation.{some_observation}
-use Rattle.cl_observe.proofs.LegalValues.{legal_within}
+use Rattle.cl_observe.proofs.{OneObservation.one_observation, SomeObservation.some_observation, LegalValues.legal_within}
 use Rattle.cl_engine.specs.declared.files.Files.TheVariants as files
-use Rattle.cl_engine.specs.declared.outcome.Outcome.{Outcome}
-use Rattle.cl_engine.specs.declared.status.TheConstants.{DONE}
-use Rattle.cl_engine.specs.Content.{of_both}
-use Rattle.cl_engine.specs.Done.{IsDone}
-use Rattle.cl_engine.specs.Language.{IsOfContent}
+use Rattle.cl_engine.specs.{declared.{outcome.Outcome.Outcome, status.TheConstants.DONE}, Content.of_both, Done.IsDone, Language.IsOfContent}
 use Rattle.cl_engine.proofs.Outcomes.{SomeOutcome}
-use Rattle.cl_top.specs.declared.command.TheConstants.{TRACE_LIMIT}
-use Rattle.cl_top.specs.Commands.Observe.{IsOfObserve, IsSafeObservation, observing}
-use Rattle.cl_top.specs.OfTrace.{trace_refused}
-use Rattle.cl_top.specs.Meaning.{task_steps, promises_of_both, equal}
-use Rattle.cl_top.proofs.Meanings.{IsMeantWell, done_some, done_once, both_well}
-use Rattle.cl_top.proofs.OfTrace.{six_content}
+use Rattle.cl_top.specs.{declared.command.TheConstants.TRACE_LIMIT, Commands.Observe.{IsOfObserve, IsSafeObservation, observing}, OfTrace.trace_refused, Meaning.{task_steps, promises_of_both, equal}}
+use Rattle.cl_top.proofs.{Meanings.{IsMeantWell, done_some, done_once, both_well}, OfTrace.six_content}
 
 module _ (model : SystemModel) where
   observed_some : IsValid model → AreNamed model → (text : List ℕ) → SomeOutcome (IsOfObserve model text)

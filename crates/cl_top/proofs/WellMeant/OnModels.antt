@@ -1,36 +1,22 @@
 -- The commands on a model that print one text of it.
 use Rattle.std.proofs.Common.{◌≡◌, ℕ, inl, inr, List, refl, sym, ◌∙◌, arith, subst}
-use Rattle.cl_model.specs.declared.model.SystemModel.{SystemModel}
-use Rattle.cl_model.specs.Validity.{IsValid}
+use Rattle.cl_model.specs.{declared.model.SystemModel.SystemModel, Validity.IsValid}
 use Rattle.cl_cut.proofs.OneCutAnswer.{all_safe, all_no_worse}
-use Rattle.cl_designs.specs.Cuts.{IsCutTextOf}
-use Rattle.cl_designs.specs.Orders.{IsOrderTextOf, IsSafeOrderText}
-use Rattle.cl_designs.specs.Headroom.{IsHeadroomTextOf, IsSafeHeadroomText}
-use Rattle.cl_designs.specs.Margins.{IsMarginTextOf, IsSafeMarginText}
-use Rattle.cl_designs.proofs.MarginTexts.{some_margin_text, one_margin_text, safe_margin_text}
-use Rattle.cl_designs.proofs.OneText.{some_cut_text, some_order_text, some_headroom_text, one_cut_text, one_order_text, one_headroom_text}
-use Rattle.cl_designs.proofs.SafeTexts.{safe_order_text, safe_headroom_text}
-use Rattle.cl_explain.specs.Explanation.{explanation}
-use Rattle.cl_explain.specs.Promises.{IsSafeExplanation}
+use Rattle.cl_designs.specs.{Cuts.IsCutTextOf, Orders.{IsOrderTextOf, IsSafeOrderText}, Headroom.{IsHeadroomTextOf, IsSafeHeadroomText}, Margins.{IsMarginTextOf, IsSafeMarginText}}
+use Rattle.cl_designs.proofs.{MarginTexts.{some_margin_text, one_margin_text, safe_margin_text}, OneText.{some_cut_text, some_order_text, some_headroom_text, one_cut_text, one_order_text, one_headroom_text}, SafeTexts.{safe_order_text, safe_headroom_text}}
+use Rattle.cl_explain.specs.{Explanation.explanation, Promises.IsSafeExplanation}
 use Rattle.cl_explain.proofs.SafelyExplained.{safe_explanation}
-use Rattle.cl_report.specs.Report.{IsReportOf}
-use Rattle.cl_report.specs.Tight.{tight_text}
+use Rattle.cl_report.specs.{Report.IsReportOf, Tight.tight_text}
 use Rattle.cl_report.proofs.OneReport.{one_report}
 use Rattle.cl_tight.proofs.TightLaws.{verified_in_time}
 use Rattle.cl_write.specs.Texts.{IsTextOf}
 use Rattle.cl_write.proofs.SomeTexts.{some_text}
 use Rattle.cl_engine.specs.declared.files.Files.TheVariants as files
-use Rattle.cl_engine.specs.Content.{Content, Model}
-use Rattle.cl_engine.specs.Done.{IsDone}
-use Rattle.cl_engine.specs.Language.{IsOfContent}
+use Rattle.cl_engine.specs.{Content.{Content, Model}, Done.IsDone, Language.IsOfContent}
 use Rattle.cl_top.specs.declared.command.Command.TheVariants as command
-use Rattle.cl_top.specs.Commands.{meaning_of}
-use Rattle.cl_top.specs.Headline.{IsSafeReportOf, AreSafeCuts, IsSafeTightReport}
-use Rattle.cl_top.specs.Meaning.{printing, no_step, any_steps, at_most, model_steps, task_steps, entry_steps, no_promise, promises, equal, of_one_model, WritesTheSame}
-use Rattle.cl_top.specs.Verified.{verify_status, IsVerifiedAs, IsShownInTime}
-use Rattle.cl_top.proofs.Meanings.{IsMeantWell, done_some, done_once, model_well}
-use Rattle.cl_top.proofs.SafeReport.{some_report, safe_report_of, safe_tight_report, some_verify_text}
-use Rattle.cl_top.proofs.VerifyStatus.{verify_content, verified_at_done}
+use Rattle.cl_top.specs.{Commands.meaning_of, Headline.{IsSafeReportOf, AreSafeCuts, IsSafeTightReport}, Meaning.{printing, no_step, any_steps, at_most, model_steps, task_steps, entry_steps, no_promise, promises, equal, of_one_model, WritesTheSame}, Verified.{verify_status, IsVerifiedAs}}
+use Rattle.cl_top.specs.Verified.{IsShownInTime}
+use Rattle.cl_top.proofs.{Meanings.{IsMeantWell, done_some, done_once, model_well}, SafeReport.{some_report, safe_report_of, safe_tight_report, some_verify_text}, VerifyStatus.{verify_content, verified_at_done}}
 
 -- a text of which each valid model has one
 module _ (IsText : SystemModel → (text : List ℕ) → Type 0) (takes : Content → (before after : ℕ) → Type 0) (safe : Content → (text : List ℕ) → Type 0)

@@ -1,25 +1,14 @@
 -- `replay`: the replay of the run of a trace.
 use Rattle.std.proofs.Common.{◌≡◌, ℕ, ◌+◌, ◌≤◌, inl, List, arith}
-use Rattle.cl_model.specs.declared.model.SystemModel.{SystemModel}
-use Rattle.cl_model.specs.Validity.{IsValid}
-use Rattle.cl_runs.specs.Legal.{IsLegal}
-use Rattle.cl_runs.specs.Run.{Run}
-use Rattle.cl_runs.specs.SystemOf.{system_of}
+use Rattle.cl_model.specs.{declared.model.SystemModel.SystemModel, Validity.IsValid}
+use Rattle.cl_runs.specs.{Legal.IsLegal, Run.Run, SystemOf.system_of}
 use Rattle.cl_replay.specs.Replay.{IsReplayOf}
-use Rattle.cl_replay.proofs.OneReplay.{one_replay}
-use Rattle.cl_replay.proofs.SafeMargins.{with_margins}
-use Rattle.cl_replay.proofs.SomeReplay.{some_replay}
+use Rattle.cl_replay.proofs.{OneReplay.one_replay, SafeMargins.with_margins, SomeReplay.some_replay}
 use Rattle.cl_engine.specs.declared.files.Files.TheVariants as files
-use Rattle.cl_engine.specs.declared.outcome.Outcome.{Outcome}
-use Rattle.cl_engine.specs.declared.status.TheConstants.{DONE}
-use Rattle.cl_engine.specs.Content.{of_both}
+use Rattle.cl_engine.specs.{declared.{outcome.Outcome.Outcome, status.TheConstants.DONE}, Content.of_both}
 use Rattle.cl_engine.proofs.Outcomes.{SomeOutcome}
-use Rattle.cl_top.specs.declared.command.TheConstants.{TRACE_LIMIT}
-use Rattle.cl_top.specs.Commands.Replay.{IsReplayed, IsOfReplay, IsSafeReplay, replaying}
-use Rattle.cl_top.specs.Meaning.{model_steps, promises_of_both, equal}
-use Rattle.cl_top.proofs.Meanings.{IsMeantWell, done_some, done_once, both_well}
-use Rattle.cl_top.proofs.OfTrace.{traced_content, done_trace}
-use Rattle.cl_top.proofs.TracesOnce.{trace_some, one_traced}
+use Rattle.cl_top.specs.{declared.command.TheConstants.TRACE_LIMIT, Commands.Replay.{IsReplayed, IsOfReplay, IsSafeReplay, replaying}, Meaning.{model_steps, promises_of_both, equal}}
+use Rattle.cl_top.proofs.{Meanings.{IsMeantWell, done_some, done_once, both_well}, OfTrace.{traced_content, done_trace}, TracesOnce.{trace_some, one_traced}}
 
 module _ (model : SystemModel) where
   some_replayed : IsValid model → (run : Run) → IsLegal (system_of model) run → SomeOutcome (IsReplayed model run)

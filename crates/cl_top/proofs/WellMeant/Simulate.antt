@@ -2,15 +2,11 @@
 use Rattle.std.proofs.Common.{◌≡◌, ℕ, inl, inr, ap, arith}
 use Rattle.std.proofs.lemmas.Bool.{cases_lt}
 use Rattle.cl_model.specs.declared.model.SystemModel.{SystemModel}
-use Rattle.cl_gen.specs.declared.limits.TheConstants.{MOST_EXECUTIONS}
-use Rattle.cl_gen.specs.Count.{execution_count}
+use Rattle.cl_gen.specs.{declared.limits.TheConstants.MOST_EXECUTIONS, Count.execution_count}
 use Rattle.cl_engine.specs.declared.files.Files.TheVariants as files
-use Rattle.cl_engine.specs.declared.outcome.Outcome.{Outcome}
-use Rattle.cl_engine.specs.Language.{IsOfContent}
-use Rattle.cl_top.specs.Commands.Simulate.{IsSimulated, simulating}
-use Rattle.cl_top.specs.Meaning.{no_step, no_promise, equal}
-use Rattle.cl_top.proofs.Meanings.{IsMeantWell, model_well}
-use Rattle.cl_top.proofs.Simulations.{simulated_some, simulated_once}
+use Rattle.cl_engine.specs.{declared.outcome.Outcome.Outcome, Language.IsOfContent}
+use Rattle.cl_top.specs.{Commands.Simulate.{IsSimulated, simulating}, Meaning.{no_step, no_promise, equal}}
+use Rattle.cl_top.proofs.{Meanings.{IsMeantWell, model_well}, Simulations.{simulated_some, simulated_once}}
 
 simulated_content : (ticks seed : ℕ) (model : SystemModel) (found : Outcome) → IsSimulated ticks seed model found → IsOfContent found.status
 simulated_content ticks seed model found is = elim (cases_lt MOST_EXECUTIONS (execution_count model ticks)) [

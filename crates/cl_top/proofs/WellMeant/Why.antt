@@ -1,28 +1,14 @@
 -- `why`: why what is asked of is answered or bounded.
 use Rattle.std.proofs.Common.{◌≡◌, ℕ, ◌<◌, inl, inr, List, length, Option, Some, None, refl, ap, arith}
 use Rattle.std.proofs.Math.ListN.{length-map}
-use Rattle.cl_model.specs.declared.chain.ChainDef.{ChainDef}
-use Rattle.cl_model.specs.declared.chain.RequirementDef.{RequirementDef}
-use Rattle.cl_model.specs.declared.model.SystemModel.{SystemModel}
-use Rattle.cl_model.specs.declared.task.TaskDef.{TaskDef}
-use Rattle.cl_model.specs.Named.{index_of}
-use Rattle.cl_model.specs.Validity.{IsValid}
+use Rattle.cl_model.specs.{declared.{chain.{ChainDef.ChainDef, RequirementDef.RequirementDef}, model.SystemModel.SystemModel, task.TaskDef.TaskDef}, Named.index_of, Validity.IsValid}
 use Rattle.cl_model.proofs.NamePlaces.{found_below}
-use Rattle.cl_why.proofs.SafeWalks.{last_as_bounds}
-use Rattle.cl_why.proofs.WindowShares.{shares_add_up}
+use Rattle.cl_why.proofs.{SafeWalks.last_as_bounds, WindowShares.shares_add_up, SomeReasons.{some_why_task, some_why_chain, some_why_requirement}}
 use Rattle.cl_engine.specs.declared.files.Files.TheVariants as files
-use Rattle.cl_engine.specs.declared.outcome.Outcome.{Outcome}
-use Rattle.cl_engine.specs.declared.status.TheConstants.{DONE}
-use Rattle.cl_engine.specs.Language.{IsOfContent}
+use Rattle.cl_engine.specs.{declared.{outcome.Outcome.Outcome, status.TheConstants.DONE}, Language.IsOfContent}
 use Rattle.cl_engine.proofs.Outcomes.{SomeOutcome}
-use Rattle.cl_top.specs.declared.subject.What.{What}
-use Rattle.cl_top.specs.declared.subject.What.TheVariants.{Response, Bound, Requirement}
-use Rattle.cl_top.specs.Subject.{names_asked}
-use Rattle.cl_top.specs.Commands.Why.{IsWhyOf, IsWhyBy, IsReasoned, IsSafeWhy, reasoning}
-use Rattle.cl_top.specs.Commands.Witness.{name_unknown}
-use Rattle.cl_top.specs.Meaning.{at_most, task_steps, promises, of_one_model}
+use Rattle.cl_top.specs.{declared.subject.What.{What, TheVariants.{Response, Bound, Requirement}}, Subject.names_asked, Commands.{Why.{IsWhyOf, IsWhyBy, IsReasoned, IsSafeWhy, reasoning}, Witness.name_unknown}, Meaning.{at_most, task_steps, promises, of_one_model}}
 use Rattle.cl_top.proofs.Meanings.{IsMeantWell, done_some, model_well}
-use Rattle.cl_why.proofs.SomeReasons.{some_why_task, some_why_chain, some_why_requirement}
 
 module _ (model : SystemModel) (valid : IsValid model) where
   -- each name of a model has a text of it

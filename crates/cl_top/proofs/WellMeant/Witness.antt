@@ -1,25 +1,14 @@
 -- `witness`: the trace of a run that comes near to what is asked of.
 use Rattle.std.proofs.Common.{◌≡◌, ℕ, inl, inr, List, Option, Some, None, refl, ap, arith}
-use Rattle.cl_model.specs.declared.model.SystemModel.{SystemModel}
-use Rattle.cl_model.specs.Named.{index_of}
-use Rattle.cl_model.specs.Validity.{IsValid}
-use Rattle.cl_runs.specs.Run.{Run}
-use Rattle.cl_runs.specs.SystemOf.{system_of}
-use Rattle.cl_runs.specs.Legal.{IsLegal}
-use Rattle.cl_runs.proofs.Filling.{legal_of_table}
-use Rattle.cl_runs.proofs.ModelSystem.{system_sound}
+use Rattle.cl_model.specs.{declared.model.SystemModel.SystemModel, Named.index_of, Validity.IsValid}
+use Rattle.cl_runs.specs.{Run.Run, SystemOf.system_of, Legal.IsLegal}
+use Rattle.cl_runs.proofs.{Filling.legal_of_table, ModelSystem.system_sound}
 use Rattle.cl_gen.specs.Drawn.{drawn}
 use Rattle.cl_gen.proofs.LawfulTables.{table_lawful}
 use Rattle.cl_engine.specs.declared.files.Files.TheVariants as files
-use Rattle.cl_engine.specs.declared.outcome.Outcome.{Outcome}
-use Rattle.cl_engine.specs.declared.status.TheConstants.{DONE}
-use Rattle.cl_engine.specs.Language.{IsOfContent}
+use Rattle.cl_engine.specs.{declared.{outcome.Outcome.Outcome, status.TheConstants.DONE}, Language.IsOfContent}
 use Rattle.cl_engine.proofs.Outcomes.{SomeOutcome}
-use Rattle.cl_top.specs.declared.subject.What.{What}
-use Rattle.cl_top.specs.Subject.{names_asked}
-use Rattle.cl_top.specs.Commands.Simulate.{traced}
-use Rattle.cl_top.specs.Commands.Witness.{name_unknown, IsLegalTrace, IsRunOutcome, IsNumbered, IsWitnessed, witnessing}
-use Rattle.cl_top.specs.Meaning.{at_most, task_steps, promises, of_one_model}
+use Rattle.cl_top.specs.{declared.subject.What.What, Subject.names_asked, Commands.{Simulate.traced, Witness.{name_unknown, IsLegalTrace, IsRunOutcome, IsNumbered, IsWitnessed, witnessing}}, Meaning.{at_most, task_steps, promises, of_one_model}}
 use Rattle.cl_top.proofs.Meanings.{IsMeantWell, model_well}
 
 module _ (what : What) (name : List ℕ) (model : SystemModel) where

@@ -1,18 +1,10 @@
 -- `apply MODEL EDITS`: the model after all edits, as a file of the least version from 2 on that can say it.
 use Rattle.std.specs.Prelude.{◌≡◌, ℕ, List, Ok}
-use Rattle.cl_model.specs.declared.model.SystemModel.{SystemModel}
-use Rattle.cl_model.specs.declared.refusal.Refusal.{Refusal}
-use Rattle.cl_model.specs.Validity.{IsValid}
-use Rattle.cl_edit.specs.declared.edit.Edit.{Edit}
-use Rattle.cl_edit.specs.declared.edit_lines.ListedEdit.{ListedEdit}
-use Rattle.cl_edit.specs.Edited.{after}
-use Rattle.cl_edit.specs.Reading.{edits_of, AreEditsOf}
+use Rattle.cl_model.specs.{declared.{model.SystemModel.SystemModel, refusal.Refusal.Refusal}, Validity.IsValid}
+use Rattle.cl_edit.specs.{declared.{edit.Edit.Edit, edit_lines.ListedEdit.ListedEdit}, Edited.after, Reading.{edits_of, AreEditsOf}}
 use Rattle.cl_write.specs.Texts.{IsTextOf}
-use Rattle.cl_engine.specs.declared.outcome.Outcome.{Outcome}
-use Rattle.cl_top.specs.Commands.Edit.{edits_refused, bad_line}
-use Rattle.cl_engine.specs.Done.{IsDone}
-use Rattle.cl_top.specs.OfEdits.{IsOfList}
-use Rattle.cl_top.specs.Meaning.{Meaning, on_both, no_step, promises_of_both, WritesTheSame}
+use Rattle.cl_engine.specs.{declared.outcome.Outcome.Outcome, Done.IsDone}
+use Rattle.cl_top.specs.{Commands.Edit.{edits_refused, bad_line}, OfEdits.IsOfList, Meaning.{Meaning, on_both, no_step, promises_of_both, WritesTheSame}}
 
 -- what comes of the model after all edits: a text that is read as it
 abbrev pub all_written : SystemModel → Outcome → Type 0

@@ -1,17 +1,9 @@
 -- `check MODEL`: what to mend in a model file that is refused, or what to know of one that is accepted.
 use Rattle.std.specs.Prelude.{◌≡◌, ◌⊎◌, ℕ, ◌+◌, ◌≤◌, List, length, Option, Some, None, Result, Ok, Err}
-use Rattle.cl_model.specs.declared.model.SystemModel.{SystemModel}
-use Rattle.cl_model.specs.declared.refusal.Refusal.{Refusal}
-use Rattle.cl_model.specs.Reading.{model_of}
-use Rattle.cl_model.specs.Validity.{refusal_of, IsValid}
+use Rattle.cl_model.specs.{declared.{model.SystemModel.SystemModel, refusal.Refusal.Refusal}, Reading.model_of, Validity.{refusal_of, IsValid}}
 use Rattle.cl_advice.specs.Advice.{AddsAdvice}
-use Rattle.cl_explain.specs.Accepted.{accepted_text}
-use Rattle.cl_explain.specs.Promises.{IsSafeAcceptance}
-use Rattle.cl_engine.specs.declared.outcome.Outcome.{Outcome}
-use Rattle.cl_engine.specs.declared.status.TheConstants.{MODEL_REFUSED}
-use Rattle.cl_engine.specs.Content.{MeansModel, of_bytes}
-use Rattle.cl_engine.specs.Done.{HasStatusAndText, IsDone}
-use Rattle.cl_engine.specs.Outcome.{refusal_line}
+use Rattle.cl_explain.specs.{Accepted.accepted_text, Promises.IsSafeAcceptance}
+use Rattle.cl_engine.specs.{declared.{outcome.Outcome.Outcome, status.TheConstants.MODEL_REFUSED}, Content.{MeansModel, of_bytes}, Done.{HasStatusAndText, IsDone}, Outcome.refusal_line}
 use Rattle.cl_top.specs.Meaning.{Meaning, on_bytes}
 
 -- the line of a refusal, and behind it what to mend in the file; of the model that it means, where it has one

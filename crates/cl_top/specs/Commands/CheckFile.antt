@@ -1,38 +1,15 @@
 -- `check MODEL FILE`: what to mend in a list of edits or a trace, for a model that is accepted.
 use Rattle.std.specs.Prelude.{◌≡◌, ◌⊎◌, ℕ, ◌+◌, ◌≤◌, Bool, true, false, nat_lt, List, ◌++◌, length, Option, Some, None, Ok, codes}
 use Rattle.cl_text.specs.Line.{line}
-use Rattle.cl_model.specs.declared.model.SystemModel.{SystemModel}
-use Rattle.cl_model.specs.declared.refusal.Refusal.{Refusal}
-use Rattle.cl_model.specs.Reading.{model_of}
-use Rattle.cl_model.specs.Validity.{IsValid}
-use Rattle.cl_edit.specs.declared.edit.Edit.{Edit}
-use Rattle.cl_edit.specs.declared.edit_lines.ListedEdit.{ListedEdit}
-use Rattle.cl_edit.specs.declared.version.Version.{Version}
-use Rattle.cl_edit.specs.Edited.{after}
-use Rattle.cl_edit.specs.Reading.{edits_of, AreEditsOf}
-use Rattle.cl_edit.specs.Said.{version_named}
-use Rattle.cl_lists.specs.BadLines.{bad_line_text}
-use Rattle.cl_lists.specs.RefusedEdits.{refused_edit_text}
-use Rattle.cl_lists.specs.NoTitles.{no_title_text}
-use Rattle.cl_runs.specs.Run.{Run}
-use Rattle.cl_runs.specs.SystemOf.{system_of}
-use Rattle.cl_runs.specs.Legal.{IsLegal}
-use Rattle.cl_check.specs.declared.run_fault.Rule.{Rule}
-use Rattle.cl_check.specs.declared.run_fault.RunFault.TheVariants.{Illegal}
-use Rattle.cl_check.specs.Legality.{IsFirstBroken}
+use Rattle.cl_model.specs.{declared.{model.SystemModel.SystemModel, refusal.Refusal.Refusal}, Reading.model_of, Validity.IsValid}
+use Rattle.cl_edit.specs.{declared.{edit.Edit.Edit, edit_lines.ListedEdit.ListedEdit, version.Version.Version}, Edited.after, Reading.{edits_of, AreEditsOf}, Said.version_named}
+use Rattle.cl_lists.specs.{BadLines.bad_line_text, RefusedEdits.refused_edit_text, NoTitles.no_title_text}
+use Rattle.cl_runs.specs.{Run.Run, SystemOf.system_of, Legal.IsLegal}
+use Rattle.cl_check.specs.{declared.run_fault.{Rule.Rule, RunFault.TheVariants.Illegal}, Legality.IsFirstBroken}
 use Rattle.cl_trace.specs.Rules.{IsTraceOf, IsBadTraceLine}
-use Rattle.cl_traces.specs.BadTraceLines.{bad_trace_text}
-use Rattle.cl_traces.specs.SaidOfRules.{IsSaidOfRule}
-use Rattle.cl_traces.specs.Titles.{is_titled_trace}
-use Rattle.cl_engine.specs.declared.files.TheConstants.{FILE_LIMIT}
-use Rattle.cl_engine.specs.declared.outcome.Outcome.{Outcome}
-use Rattle.cl_engine.specs.Done.{IsDone}
-use Rattle.cl_engine.specs.Outcome.{long_file}
-use Rattle.cl_top.specs.Commands.Check.{IsChecked, ChecksTheSame, read_steps, IsSafeAdvice}
-use Rattle.cl_top.specs.Commands.Edit.{edits_refused, bad_line}
-use Rattle.cl_top.specs.OfEdits.{IsOfList}
-use Rattle.cl_top.specs.OfTrace.{trace_refused, trace_illegal}
-use Rattle.cl_top.specs.Meaning.{Meaning, of_either}
+use Rattle.cl_traces.specs.{BadTraceLines.bad_trace_text, SaidOfRules.IsSaidOfRule, Titles.is_titled_trace}
+use Rattle.cl_engine.specs.{declared.{files.TheConstants.FILE_LIMIT, outcome.Outcome.Outcome}, Done.IsDone, Outcome.long_file}
+use Rattle.cl_top.specs.{Commands.{Check.{IsChecked, ChecksTheSame, read_steps, IsSafeAdvice}, Edit.{edits_refused, bad_line}}, OfEdits.IsOfList, OfTrace.{trace_refused, trace_illegal}, Meaning.{Meaning, of_either}}
 
 -- nothing is wrong with the file
 abbrev pub accepted_file : List ℕ

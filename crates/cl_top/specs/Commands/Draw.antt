@@ -2,16 +2,11 @@
 use Rattle.std.specs.Prelude.{◌≡◌, ◌⊎◌, ℕ, ◌<◌, ◌≤◌, List, ◌++◌, codes, decimal}
 use Rattle.cl_text.specs.Line.{line}
 use Rattle.cl_model.specs.declared.model.SystemModel.{SystemModel}
-use Rattle.cl_runs.specs.Run.{Run}
-use Rattle.cl_runs.specs.SystemOf.{system_of}
-use Rattle.cl_runs.specs.Legal.{IsLegal}
+use Rattle.cl_runs.specs.{Run.Run, SystemOf.system_of, Legal.IsLegal}
 use Rattle.cl_trace.specs.Rules.{IsTraceOf}
 use Rattle.cl_draw.specs.Picture.{IsPictureOf}
-use Rattle.cl_engine.specs.declared.outcome.Outcome.{Outcome}
-use Rattle.cl_engine.specs.declared.status.TheConstants.{WINDOW_REFUSED}
-use Rattle.cl_engine.specs.Done.{IsDone}
-use Rattle.cl_top.specs.OfTrace.{IsOfTrace}
-use Rattle.cl_top.specs.Meaning.{Meaning, on_both, no_step, promises_of_both, equal}
+use Rattle.cl_engine.specs.{declared.{outcome.Outcome.Outcome, status.TheConstants.WINDOW_REFUSED}, Done.IsDone}
+use Rattle.cl_top.specs.{OfTrace.IsOfTrace, Meaning.{Meaning, on_both, no_step, promises_of_both, equal}}
 
 -- ---- the window
 

@@ -2,26 +2,12 @@
 use Rattle.std.specs.Prelude.{◌≡◌, ◌⊎◌, ℕ, ◌<◌, ◌≤◌, Bool, true, false, List, [], ◌++◌, length, take, slice_index_or, codes, decimal, Ok, Err}
 use Rattle.std.specs.List.{concat, list_any}
 use Rattle.cl_text.specs.Line.{line}
-use Rattle.cl_model.specs.declared.model.SystemModel.{SystemModel}
-use Rattle.cl_model.specs.declared.refusal.Code.TheVariants.{E1}
-use Rattle.cl_model.specs.declared.refusal.Refusal.{Refusal}
-use Rattle.cl_model.specs.Place.{top}
-use Rattle.cl_model.specs.Refusal.{refusal_text}
-use Rattle.cl_edit.specs.declared.edit.Edit.{Edit}
-use Rattle.cl_edit.specs.declared.edit.Edit.TheVariants.{Report, Tighten, Verify}
-use Rattle.cl_edit.specs.declared.edit_lines.ListedEdit.{ListedEdit}
-use Rattle.cl_edit.specs.Edited.{edited, after}
-use Rattle.cl_edit.specs.Reading.{edits_of, AreEditsOf}
-use Rattle.cl_report.specs.Report.{IsReportOf}
-use Rattle.cl_report.specs.Tight.{tight_text}
+use Rattle.cl_model.specs.{declared.{model.SystemModel.SystemModel, refusal.{Code.TheVariants.E1, Refusal.Refusal}}, Place.top, Refusal.refusal_text}
+use Rattle.cl_edit.specs.{declared.{edit.Edit.{Edit, TheVariants.{Report, Tighten, Verify}}, edit_lines.ListedEdit.ListedEdit}, Edited.{edited, after}, Reading.{edits_of, AreEditsOf}}
+use Rattle.cl_report.specs.{Report.IsReportOf, Tight.tight_text}
 use Rattle.cl_verify.specs.VerifyText.{IsVerifyTextOf}
-use Rattle.cl_engine.specs.declared.outcome.Outcome.{Outcome}
-use Rattle.cl_engine.specs.declared.status.TheConstants.{DONE, EDITS_REFUSED}
-use Rattle.cl_engine.specs.Content.{of_both}
-use Rattle.cl_top.specs.OfEdits.{edit_at, line_at, HasBadLine}
-use Rattle.cl_top.specs.Headline.{IsSafeReportOf, IsSafeTightReport}
-use Rattle.cl_top.specs.Meaning.{Meaning, on_both, promises_of_both}
-use Rattle.cl_top.specs.Steps.{AreFewOfEdits}
+use Rattle.cl_engine.specs.{declared.{outcome.Outcome.Outcome, status.TheConstants.{DONE, EDITS_REFUSED}}, Content.of_both}
+use Rattle.cl_top.specs.{OfEdits.{edit_at, line_at, HasBadLine}, Headline.{IsSafeReportOf, IsSafeTightReport}, Meaning.{Meaning, on_both, promises_of_both}, Steps.AreFewOfEdits}
 
 -- an outcome with the status of refused edits
 abbrev pub refused_with : (text : List ℕ) → Outcome

@@ -1,17 +1,11 @@
 -- `observe MODEL TRACE`: what the run of a trace shows, legal or not.
 use Rattle.std.specs.Prelude.{◌⊎◌, ℕ, ◌+◌, ◌≤◌, List}
 use Rattle.cl_model.specs.declared.model.SystemModel.{SystemModel}
-use Rattle.cl_runs.specs.Legal.{IsLegal}
-use Rattle.cl_runs.specs.Run.{Run}
-use Rattle.cl_runs.specs.SystemOf.{system_of}
+use Rattle.cl_runs.specs.{Legal.IsLegal, Run.Run, SystemOf.system_of}
 use Rattle.cl_trace.specs.Rules.{IsTraceOf}
-use Rattle.cl_observe.specs.Observed.{IsObservationOf}
-use Rattle.cl_observe.specs.Within.{IsWithinFindings}
-use Rattle.cl_engine.specs.declared.outcome.Outcome.{Outcome}
-use Rattle.cl_engine.specs.Content.{of_both}
-use Rattle.cl_engine.specs.Done.{IsDone}
-use Rattle.cl_top.specs.OfTrace.{HasBadTraceLine}
-use Rattle.cl_top.specs.Meaning.{Meaning, on_both, task_steps, promises_of_both, equal}
+use Rattle.cl_observe.specs.{Observed.IsObservationOf, Within.IsWithinFindings}
+use Rattle.cl_engine.specs.{declared.outcome.Outcome.Outcome, Content.of_both, Done.IsDone}
+use Rattle.cl_top.specs.{OfTrace.HasBadTraceLine, Meaning.{Meaning, on_both, task_steps, promises_of_both, equal}}
 
 -- the text is the trace of a run, of which the outcome says what it shows
 pub record HasObserved (model : SystemModel) (text : List ℕ) (found : Outcome) : Type 0 where

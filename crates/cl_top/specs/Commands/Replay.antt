@@ -1,17 +1,11 @@
 -- `replay MODEL TRACE`: the replay of the run of a trace.
 use Rattle.std.specs.Prelude.{ℕ, ◌+◌, ◌≤◌, List}
 use Rattle.cl_model.specs.declared.model.SystemModel.{SystemModel}
-use Rattle.cl_runs.specs.Run.{Run}
-use Rattle.cl_runs.specs.SystemOf.{system_of}
-use Rattle.cl_runs.specs.Legal.{IsLegal}
+use Rattle.cl_runs.specs.{Run.Run, SystemOf.system_of, Legal.IsLegal}
 use Rattle.cl_trace.specs.Rules.{IsTraceOf}
-use Rattle.cl_replay.specs.Margins.{IsReplayWithMargins}
-use Rattle.cl_replay.specs.Replay.{IsReplayOf}
-use Rattle.cl_engine.specs.declared.outcome.Outcome.{Outcome}
-use Rattle.cl_engine.specs.Content.{of_both}
-use Rattle.cl_engine.specs.Done.{IsDone}
-use Rattle.cl_top.specs.OfTrace.{IsOfTrace}
-use Rattle.cl_top.specs.Meaning.{Meaning, on_both, model_steps, promises_of_both, equal}
+use Rattle.cl_replay.specs.{Margins.IsReplayWithMargins, Replay.IsReplayOf}
+use Rattle.cl_engine.specs.{declared.outcome.Outcome.Outcome, Content.of_both, Done.IsDone}
+use Rattle.cl_top.specs.{OfTrace.IsOfTrace, Meaning.{Meaning, on_both, model_steps, promises_of_both, equal}}
 
 -- what comes of a legal run: its replay
 abbrev pub IsReplayed : SystemModel → Run → Outcome → Type 0

@@ -2,15 +2,10 @@
 use Rattle.std.specs.Prelude.{◌≡◌, ℕ, ◌<◌, ◌≤◌, ◌++◌, codes, decimal}
 use Rattle.cl_text.specs.Line.{line}
 use Rattle.cl_model.specs.declared.model.SystemModel.{SystemModel}
-use Rattle.cl_runs.specs.Run.{Run}
-use Rattle.cl_runs.specs.SystemOf.{system_of}
-use Rattle.cl_runs.specs.Legal.{IsLegal}
-use Rattle.cl_gen.specs.declared.limits.TheConstants.{MOST_EXECUTIONS}
-use Rattle.cl_gen.specs.Count.{execution_count}
-use Rattle.cl_gen.specs.Drawn.{drawn}
+use Rattle.cl_runs.specs.{Run.Run, SystemOf.system_of, Legal.IsLegal}
+use Rattle.cl_gen.specs.{declared.limits.TheConstants.MOST_EXECUTIONS, Count.execution_count, Drawn.drawn}
 use Rattle.cl_trace.specs.Trace.{spelled}
-use Rattle.cl_engine.specs.declared.outcome.Outcome.{Outcome}
-use Rattle.cl_engine.specs.declared.status.TheConstants.{DONE, SIMULATION_REFUSED}
+use Rattle.cl_engine.specs.declared.{outcome.Outcome.Outcome, status.TheConstants.{DONE, SIMULATION_REFUSED}}
 use Rattle.cl_top.specs.Meaning.{Meaning, on_model, no_step, no_promise, equal}
 
 -- so many executions are counted, which are too many

@@ -1,16 +1,9 @@
 -- `why MODEL WHAT NAME`: why what is asked of is answered or bounded as `verify` says.
 use Rattle.std.specs.Prelude.{◌≡◌, ℕ, List, Option, Some, None}
-use Rattle.cl_model.specs.declared.model.SystemModel.{SystemModel}
-use Rattle.cl_model.specs.Named.{index_of}
-use Rattle.cl_why.specs.Reasons.{IsWhyOfTask, IsWhyOfChain, IsWhyOfRequirement}
-use Rattle.cl_why.specs.Promises.{AreSafeReasons}
-use Rattle.cl_engine.specs.declared.outcome.Outcome.{Outcome}
-use Rattle.cl_engine.specs.Done.{IsDone}
-use Rattle.cl_top.specs.declared.subject.What.{What}
-use Rattle.cl_top.specs.declared.subject.What.TheVariants.{Response, Bound, Requirement}
-use Rattle.cl_top.specs.Subject.{names_asked}
-use Rattle.cl_top.specs.Commands.Witness.{name_unknown}
-use Rattle.cl_top.specs.Meaning.{Meaning, on_model, at_most, task_steps, promises, of_one_model}
+use Rattle.cl_model.specs.{declared.model.SystemModel.SystemModel, Named.index_of}
+use Rattle.cl_why.specs.{Reasons.{IsWhyOfTask, IsWhyOfChain, IsWhyOfRequirement}, Promises.AreSafeReasons}
+use Rattle.cl_engine.specs.{declared.outcome.Outcome.Outcome, Done.IsDone}
+use Rattle.cl_top.specs.{declared.subject.What.{What, TheVariants.{Response, Bound, Requirement}}, Subject.names_asked, Commands.Witness.name_unknown, Meaning.{Meaning, on_model, at_most, task_steps, promises, of_one_model}}
 
 -- the text of why, of what has this number
 abbrev pub IsWhyOf : What → SystemModel → (number : ℕ) → (text : List ℕ) → Type 0

@@ -1,19 +1,12 @@
 -- `witness MODEL WHAT NAME`: the trace of a run that comes near to what is asked of. Which run that is, is no promise.
 use Rattle.std.specs.Prelude.{◌≡◌, ◌⊎◌, ℕ, ◌<◌, List, ◌++◌, codes, decimal, Option, Some, None}
 use Rattle.cl_text.specs.Line.{line}
-use Rattle.cl_model.specs.declared.model.SystemModel.{SystemModel}
-use Rattle.cl_model.specs.Named.{index_of}
-use Rattle.cl_runs.specs.Run.{Run}
-use Rattle.cl_runs.specs.SystemOf.{system_of}
-use Rattle.cl_runs.specs.Legal.{IsLegal}
+use Rattle.cl_model.specs.{declared.model.SystemModel.SystemModel, Named.index_of}
+use Rattle.cl_runs.specs.{Run.Run, SystemOf.system_of, Legal.IsLegal}
 use Rattle.cl_gen.specs.declared.limits.TheConstants.{MOST_RUN_TICKS, MOST_EXECUTIONS}
 use Rattle.cl_trace.specs.Trace.{spelled}
-use Rattle.cl_engine.specs.declared.outcome.Outcome.{Outcome}
-use Rattle.cl_engine.specs.declared.status.TheConstants.{NAME_UNKNOWN, RUN_REFUSED}
-use Rattle.cl_top.specs.declared.subject.What.{What}
-use Rattle.cl_top.specs.Subject.{section_word, names_asked}
-use Rattle.cl_top.specs.Commands.Simulate.{simulation_refused, traced}
-use Rattle.cl_top.specs.Meaning.{Meaning, on_model, at_most, task_steps, promises, of_one_model}
+use Rattle.cl_engine.specs.declared.{outcome.Outcome.Outcome, status.TheConstants.{NAME_UNKNOWN, RUN_REFUSED}}
+use Rattle.cl_top.specs.{declared.subject.What.What, Subject.{section_word, names_asked}, Commands.Simulate.{simulation_refused, traced}, Meaning.{Meaning, on_model, at_most, task_steps, promises, of_one_model}}
 
 -- the model has nothing of that name
 abbrev pub name_unknown : What → (name : List ℕ) → Outcome

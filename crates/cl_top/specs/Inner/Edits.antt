@@ -1,12 +1,8 @@
 -- What the edits of a session come to, one by one.
 use Rattle.std.specs.Prelude.{◌≡◌, ℕ, ◌+◌, ◌≤◌, ◌++◌, List, Result, Ok, Err}
-use Rattle.cl_model.specs.declared.model.SystemModel.{SystemModel}
-use Rattle.cl_model.specs.declared.refusal.Refusal.{Refusal}
-use Rattle.cl_edit.specs.declared.edit.Edit.{Edit}
-use Rattle.cl_edit.specs.Edited.{edited}
-use Rattle.cl_top.specs.Commands.Edit.{IsWrittenBy}
-use Rattle.cl_top.specs.Meaning.{model_steps}
-use Rattle.cl_top.specs.Steps.{AsksFor, AskForChanges}
+use Rattle.cl_model.specs.declared.{model.SystemModel.SystemModel, refusal.Refusal.Refusal}
+use Rattle.cl_edit.specs.{declared.edit.Edit.Edit, Edited.edited}
+use Rattle.cl_top.specs.{Commands.Edit.IsWrittenBy, Meaning.model_steps, Steps.{AsksFor, AskForChanges}}
 
 -- an edit was made: the model is the edited one, and what the edit has written stands behind the text
 pub record IsMade (old : SystemModel) (edit : Edit) (new : SystemModel) (before after : List ℕ) : Type 0 where

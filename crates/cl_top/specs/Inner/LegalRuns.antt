@@ -1,14 +1,11 @@
 -- What the reading of a trace gives: a legal run, or the outcome that stands in the place of what comes of one.
 use Rattle.std.specs.Prelude.{◌≡◌, ℕ, List}
 use Rattle.cl_model.specs.declared.model.SystemModel.{SystemModel}
-use Rattle.cl_runs.specs.Legal.{IsLegal}
-use Rattle.cl_runs.specs.Run.{Run}
-use Rattle.cl_runs.specs.SystemOf.{system_of}
+use Rattle.cl_runs.specs.{Legal.IsLegal, Run.Run, SystemOf.system_of}
 use Rattle.cl_trace.specs.Rules.{IsTraceOf}
-use Rattle.cl_top.specs.declared.commands.legal_run.LegalRun.{LegalRun}
+use Rattle.cl_top.specs.{declared.commands.legal_run.LegalRun.LegalRun, OfTrace.{IsOfRun, IsOfTrace}}
 use Rattle.cl_top.specs.declared.commands.legal_run.LegalRun.TheVariants as legal_run
 use Rattle.cl_engine.specs.declared.outcome.Outcome.{Outcome}
-use Rattle.cl_top.specs.OfTrace.{IsOfRun, IsOfTrace}
 
 -- nothing comes of it
 abbrev pub NothingOf : Run → Outcome → Type 0

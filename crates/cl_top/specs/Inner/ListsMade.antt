@@ -1,16 +1,11 @@
 -- What becomes of an edit of a list that is checked.
 use Rattle.std.specs.Prelude.{◌≡◌, ℕ, List, Ok, Err}
-use Rattle.cl_model.specs.declared.model.SystemModel.{SystemModel}
-use Rattle.cl_model.specs.declared.refusal.Refusal.{Refusal}
-use Rattle.cl_edit.specs.declared.edit_lines.ListedEdit.{ListedEdit}
-use Rattle.cl_edit.specs.Changing.{with_change, MayBeMade}
-use Rattle.cl_edit.specs.Edited.{edited}
+use Rattle.cl_model.specs.declared.{model.SystemModel.SystemModel, refusal.Refusal.Refusal}
+use Rattle.cl_edit.specs.{declared.edit_lines.ListedEdit.ListedEdit, Changing.{with_change, MayBeMade}, Edited.edited}
 use Rattle.cl_engine.specs.declared.outcome.Outcome.{Outcome}
-use Rattle.cl_top.specs.declared.commands.check_list.Tried.{Tried}
+use Rattle.cl_top.specs.{declared.commands.check_list.{Tried.Tried, Left.Left}, Commands.CheckFile.edit_mended}
 use Rattle.cl_top.specs.declared.commands.check_list.Tried.TheVariants as tried
-use Rattle.cl_top.specs.declared.commands.check_list.Left.{Left}
 use Rattle.cl_top.specs.declared.commands.check_list.Left.TheVariants as left
-use Rattle.cl_top.specs.Commands.CheckFile.{edit_mended}
 
 -- it is refused with this outcome
 abbrev pub IsStoppedBy : (text : List ℕ) → SystemModel → ListedEdit → Outcome → Type 0

@@ -1,10 +1,7 @@
 -- What the simulation of a drawn table comes to.
 use Rattle.std.specs.Prelude.{◌≡◌}
 use Rattle.cl_model.specs.declared.model.SystemModel.{SystemModel}
-use Rattle.cl_runs.specs.declared.job.JobTable.{JobTable}
-use Rattle.cl_runs.specs.Run.{Run}
-use Rattle.cl_runs.specs.SystemOf.{system_of}
-use Rattle.cl_runs.specs.Legal.{IsLegal}
+use Rattle.cl_runs.specs.{declared.job.JobTable.JobTable, Run.Run, SystemOf.system_of, Legal.IsLegal}
 use Rattle.cl_engine.specs.declared.outcome.Outcome.{Outcome}
 use Rattle.cl_top.specs.Commands.Simulate.{traced}
 

@@ -1,13 +1,8 @@
 ghost use Rattle.std.specs.Prelude.{◌≡◌, All, IfOk};
 ghost use Rattle.cl_model.specs.Answers.{Gives};
-ghost use Rattle.cl_edit.specs.Edited.{edited};
-ghost use Rattle.cl_edit.specs.Ranges.{IsEditInRange};
-ghost use Rattle.cl_edit.specs.Reading.{edits_of};
+ghost use Rattle.cl_edit.specs.{Edited.edited, Ranges.IsEditInRange, Reading.edits_of};
 ghost use Rattle.cl_engine.specs.Content.{ModelAnd};
-ghost use Rattle.cl_top.specs.Commands.{IsOutcomeOf};
-ghost use Rattle.cl_top.specs.Commands.Apply.{all_written, refused_alone};
-ghost use Rattle.cl_top.specs.Commands.Edit.{edits_refused};
-ghost use Rattle.cl_top.specs.Inner.Applying.{ApplyTo};
+ghost use Rattle.cl_top.specs.{Commands.{IsOutcomeOf, Apply.{all_written, refused_alone}, Edit.edits_refused}, Inner.Applying.ApplyTo};
 
 use super::edit::{bad_line, refused};
 use super::migrate::migrated;

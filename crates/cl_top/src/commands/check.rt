@@ -1,13 +1,9 @@
 ghost use Rattle.std.specs.Prelude.{◌≡◌, ◌+◌, ◌≤◌, length, Some, Ok, IfOk, IfSome};
 ghost use Rattle.std.specs.Option.{option_copied};
-ghost use Rattle.cl_model.specs.Answers.{IsFaultOf};
-ghost use Rattle.cl_model.specs.Ranges.{IsInRange};
-ghost use Rattle.cl_model.specs.Validity.{refusals_of, refusal_of};
+ghost use Rattle.cl_model.specs.{Answers.IsFaultOf, Ranges.IsInRange, Validity.{refusals_of, refusal_of}};
 ghost use Rattle.cl_explain.specs.Accepted.{accepted_text};
-ghost use Rattle.cl_engine.specs.Content.{Bytes};
-ghost use Rattle.cl_top.specs.Commands.{IsOutcomeOf, TakesStepsOf};
-ghost use Rattle.cl_top.specs.Commands.Check.{IsAdvised, ValidityChecks};
-ghost use Rattle.cl_engine.specs.Done.{IsDone};
+ghost use Rattle.cl_engine.specs.{Content.Bytes, Done.IsDone};
+ghost use Rattle.cl_top.specs.Commands.{IsOutcomeOf, TakesStepsOf, Check.{IsAdvised, ValidityChecks}};
 
 use crate::Command;
 use cl_advice::put_advice;

@@ -1,8 +1,6 @@
 ghost use Rattle.std.specs.Prelude.{◌≡◌, None, IfOk};
 ghost use Rattle.cl_engine.specs.Content.{content_of, Fits};
-ghost use Rattle.cl_top.specs.Command.{files_read};
-ghost use Rattle.cl_top.specs.Commands.{IsOutcomeOf, TakesStepsOf};
-ghost use Rattle.cl_top.specs.Commands.CheckFile.{FileChecks, IsFileChecked, no_title};
+ghost use Rattle.cl_top.specs.{Command.files_read, Commands.{IsOutcomeOf, TakesStepsOf, CheckFile.{FileChecks, IsFileChecked, no_title}}};
 ghost use Rattle.cl_traces.specs.Titles.{is_titled_trace};
 
 use super::check::checked;

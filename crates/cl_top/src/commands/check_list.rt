@@ -1,11 +1,7 @@
 ghost use Rattle.std.specs.Prelude.{◌≡◌, nat_lt, length, All, IfOk, Err};
-ghost use Rattle.cl_edit.specs.Edited.{edited};
-ghost use Rattle.cl_edit.specs.Ranges.{IsEditInRange};
-ghost use Rattle.cl_edit.specs.Reading.{edits_of};
+ghost use Rattle.cl_edit.specs.{Edited.edited, Ranges.IsEditInRange, Reading.edits_of};
 ghost use Rattle.cl_engine.specs.declared.files.TheConstants.{FILE_LIMIT};
-ghost use Rattle.cl_top.specs.Commands.CheckFile.{IsAcceptedFile, all_accepted, edit_mended, line_mended, IsOfListFile, IsOfLimitedList};
-ghost use Rattle.cl_top.specs.Inner.Applying.{ApplyTo};
-ghost use Rattle.cl_top.specs.Inner.ListsMade.{IsTriedAs, IsLeftBy};
+ghost use Rattle.cl_top.specs.{Commands.CheckFile.{IsAcceptedFile, all_accepted, edit_mended, line_mended, IsOfListFile, IsOfLimitedList}, Inner.{Applying.ApplyTo, ListsMade.{IsTriedAs, IsLeftBy}}};
 
 use super::edit::{bad_line, refused};
 use cl_edit::{Change, EditLines, EditsFault, ListedEdit, Version, check_edit};

@@ -1,11 +1,8 @@
 ghost use Rattle.std.specs.Prelude.{◌≡◌, IfOk};
-ghost use Rattle.cl_check.specs.declared.run_fault.RunFault.TheVariants.{Illegal};
-ghost use Rattle.cl_check.specs.Legality.{IsFirstBroken};
-ghost use Rattle.cl_runs.specs.Run.{IsInForm};
-ghost use Rattle.cl_runs.specs.SystemOf.{system_of};
+ghost use Rattle.cl_check.specs.{declared.run_fault.RunFault.TheVariants.Illegal, Legality.IsFirstBroken};
+ghost use Rattle.cl_runs.specs.{Run.IsInForm, SystemOf.system_of};
 ghost use Rattle.cl_traces.specs.BadTraceLines.{bad_trace_text};
-ghost use Rattle.cl_top.specs.OfTrace.{trace_refused};
-ghost use Rattle.cl_top.specs.Commands.CheckFile.{with_said, IsCheckedRun, HasMendedRule, IsOfTraceFile};
+ghost use Rattle.cl_top.specs.{OfTrace.trace_refused, Commands.CheckFile.{with_said, IsCheckedRun, HasMendedRule, IsOfTraceFile}};
 
 use super::check_list::accepted_file;
 use super::legal_run::{illegal, refused};

@@ -1,11 +1,8 @@
 ghost use Rattle.std.specs.Prelude.{◌≡◌, ◌≤◌, IfOk};
 ghost use Rattle.cl_picture.specs.declared.window.TheConstants.{MOST_WINDOW};
-ghost use Rattle.cl_runs.specs.SystemOf.{system_of};
-ghost use Rattle.cl_runs.specs.Legal.{IsLegal};
+ghost use Rattle.cl_runs.specs.{SystemOf.system_of, Legal.IsLegal};
 ghost use Rattle.cl_engine.specs.Content.{ModelAnd};
-ghost use Rattle.cl_top.specs.Command.{AsksForFew};
-ghost use Rattle.cl_top.specs.Commands.{IsOutcomeOf};
-ghost use Rattle.cl_top.specs.Commands.Draw.{window_refused, IsDrawn};
+ghost use Rattle.cl_top.specs.{Command.AsksForFew, Commands.{IsOutcomeOf, Draw.{window_refused, IsDrawn}}};
 
 use super::legal_run::{LegalRun, legal_run};
 use crate::Command;

@@ -1,17 +1,10 @@
 ghost use Rattle.std.specs.Prelude.{◌≡◌, ℕ, ◌+◌, ◌≤◌, ◌++◌, List, Err, All, IfOk, OnOk};
-ghost use Rattle.cl_model.specs.Place.{top};
-ghost use Rattle.cl_model.specs.declared.refusal.Refusal.{Refusal};
-ghost use Rattle.cl_edit.specs.Edited.{edited};
-ghost use Rattle.cl_edit.specs.Ranges.{IsEditInRange};
-ghost use Rattle.cl_edit.specs.Reading.{edits_of};
+ghost use Rattle.cl_model.specs.{Place.top, declared.refusal.Refusal.Refusal};
+ghost use Rattle.cl_edit.specs.{Edited.edited, Ranges.IsEditInRange, Reading.edits_of};
 ghost use Rattle.cl_report.specs.Tight.{tight_text};
 ghost use Rattle.cl_verify.specs.VerifyText.{IsVerifyTextOf};
 ghost use Rattle.cl_engine.specs.Content.{ModelAnd};
-ghost use Rattle.cl_top.specs.Commands.{IsOutcomeOf, TakesStepsOf};
-ghost use Rattle.cl_top.specs.Commands.Edit.{edits_refused, behind, IsWrittenBy, AreEditedTo};
-ghost use Rattle.cl_top.specs.Inner.Edits.{IsMade, HasAsked, HaveAsked};
-ghost use Rattle.cl_top.specs.Meaning.{task_steps};
-ghost use Rattle.cl_top.specs.Steps.{written_steps, AskForChanges};
+ghost use Rattle.cl_top.specs.{Commands.{IsOutcomeOf, TakesStepsOf, Edit.{edits_refused, behind, IsWrittenBy, AreEditedTo}}, Inner.Edits.{IsMade, HasAsked, HaveAsked}, Meaning.task_steps, Steps.{written_steps, AskForChanges}};
 
 use crate::Command;
 use cl_edit::{Edit, EditLines, EditsFault, ListedEdit};

@@ -1,7 +1,6 @@
 ghost use Rattle.std.specs.Prelude.{IfOk};
 ghost use Rattle.cl_engine.specs.Content.{Nothing};
-ghost use Rattle.cl_top.specs.Command.{AsksForFew};
-ghost use Rattle.cl_top.specs.Commands.{IsOutcomeOf};
+ghost use Rattle.cl_top.specs.{Command.AsksForFew, Commands.IsOutcomeOf};
 
 use crate::Command;
 use cl_engine::Outcome;

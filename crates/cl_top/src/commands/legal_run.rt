@@ -1,8 +1,6 @@
 ghost use Rattle.std.specs.Prelude.{◌≡◌, IfOk};
-ghost use Rattle.cl_runs.specs.SystemOf.{system_of};
-ghost use Rattle.cl_runs.specs.Run.{IsInForm};
-ghost use Rattle.cl_top.specs.Inner.LegalRuns.{IsCheckedAs, IsTracedAs};
-ghost use Rattle.cl_top.specs.OfTrace.{trace_refused, trace_illegal};
+ghost use Rattle.cl_runs.specs.{SystemOf.system_of, Run.IsInForm};
+ghost use Rattle.cl_top.specs.{Inner.LegalRuns.{IsCheckedAs, IsTracedAs}, OfTrace.{trace_refused, trace_illegal}};
 
 use cl_check::{Rule, RunFault, check_run};
 use cl_engine::{Outcome, status};

@@ -1,11 +1,8 @@
 ghost use Rattle.std.specs.Prelude.{◌+◌, ◌≤◌, IfOk};
-ghost use Rattle.cl_runs.specs.Run.{IsInForm};
-ghost use Rattle.cl_runs.specs.SystemOf.{system_of};
-ghost use Rattle.cl_engine.specs.Content.{ModelAnd};
-ghost use Rattle.cl_engine.specs.Done.{IsDone};
+ghost use Rattle.cl_runs.specs.{Run.IsInForm, SystemOf.system_of};
+ghost use Rattle.cl_engine.specs.{Content.ModelAnd, Done.IsDone};
 ghost use Rattle.cl_observe.specs.Observed.{IsObservationOf};
-ghost use Rattle.cl_top.specs.Commands.{IsOutcomeOf, TakesStepsOf};
-ghost use Rattle.cl_top.specs.Meaning.{task_steps};
+ghost use Rattle.cl_top.specs.{Commands.{IsOutcomeOf, TakesStepsOf}, Meaning.task_steps};
 
 use super::legal_run::refused;
 use crate::Command;

@@ -1,9 +1,7 @@
 ghost use Rattle.std.specs.Prelude.{◌+◌, ◌*◌, ◌≤◌, length, IfOk};
-ghost use Rattle.cl_runs.specs.SystemOf.{system_of};
-ghost use Rattle.cl_runs.specs.Legal.{IsLegal};
+ghost use Rattle.cl_runs.specs.{SystemOf.system_of, Legal.IsLegal};
 ghost use Rattle.cl_engine.specs.Content.{ModelAnd};
-ghost use Rattle.cl_top.specs.Commands.{IsOutcomeOf, TakesStepsOf};
-ghost use Rattle.cl_top.specs.Commands.Replay.{IsReplayed};
+ghost use Rattle.cl_top.specs.Commands.{IsOutcomeOf, TakesStepsOf, Replay.IsReplayed};
 
 use super::legal_run::{LegalRun, legal_run};
 use crate::Command;

@@ -1,11 +1,7 @@
 ghost use Rattle.std.specs.Prelude.{◌≡◌, IfOk};
 ghost use Rattle.cl_engine.specs.Content.{Model};
-ghost use Rattle.cl_runs.specs.SystemOf.{system_of};
-ghost use Rattle.cl_runs.specs.Table.{IsLawful};
-ghost use Rattle.cl_top.specs.Command.{AsksForFew};
-ghost use Rattle.cl_top.specs.Commands.{IsOutcomeOf};
-ghost use Rattle.cl_top.specs.Commands.Simulate.{simulation_refused};
-ghost use Rattle.cl_top.specs.Inner.Traced.{IsTraceOfTable};
+ghost use Rattle.cl_runs.specs.{SystemOf.system_of, Table.IsLawful};
+ghost use Rattle.cl_top.specs.{Command.AsksForFew, Commands.{IsOutcomeOf, Simulate.simulation_refused}, Inner.Traced.IsTraceOfTable};
 
 use crate::Command;
 use cl_engine::{Outcome, status};

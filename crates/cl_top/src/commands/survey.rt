@@ -1,9 +1,7 @@
 ghost use Rattle.std.specs.Prelude.{◌+◌, ◌*◌, ◌≤◌, length, IfOk};
 ghost use Rattle.cl_report.specs.Survey.{IsSurveyOf};
-ghost use Rattle.cl_engine.specs.Done.{IsDone};
-ghost use Rattle.cl_engine.specs.Content.{Nothing};
-ghost use Rattle.cl_top.specs.Command.{AsksForFew};
-ghost use Rattle.cl_top.specs.Commands.{IsOutcomeOf, TakesStepsOf};
+ghost use Rattle.cl_engine.specs.{Done.IsDone, Content.Nothing};
+ghost use Rattle.cl_top.specs.{Command.AsksForFew, Commands.{IsOutcomeOf, TakesStepsOf}};
 
 use crate::Command;
 use cl_analyse::analyse;

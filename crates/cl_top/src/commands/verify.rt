@@ -1,8 +1,7 @@
 ghost use Rattle.std.specs.Prelude.{◌≡◌, IfOk};
 ghost use Rattle.cl_tight.specs.TightFindings.{tight_findings_of};
 ghost use Rattle.cl_engine.specs.Content.{Model};
-ghost use Rattle.cl_top.specs.Verified.{verify_status};
-ghost use Rattle.cl_top.specs.Commands.{IsOutcomeOf, TakesStepsOf};
+ghost use Rattle.cl_top.specs.{Verified.verify_status, Commands.{IsOutcomeOf, TakesStepsOf}};
 
 use crate::Command;
 use cl_engine::{Outcome, status};

@@ -1,11 +1,7 @@
 ghost use Rattle.std.specs.Prelude.{◌≡◌, ◌<◌, length, IfOk};
-ghost use Rattle.cl_tight.specs.Promises.{AreSafeTightFindings};
-ghost use Rattle.cl_tight.specs.TightFindings.{tight_findings_of};
-ghost use Rattle.cl_engine.specs.Content.{Model};
-ghost use Rattle.cl_engine.specs.Done.{IsDone};
-ghost use Rattle.cl_top.specs.Commands.{IsOutcomeOf, TakesStepsOf};
-ghost use Rattle.cl_top.specs.Commands.Why.{IsWhyOf};
-ghost use Rattle.cl_top.specs.Subject.{names_asked};
+ghost use Rattle.cl_tight.specs.{Promises.AreSafeTightFindings, TightFindings.tight_findings_of};
+ghost use Rattle.cl_engine.specs.{Content.Model, Done.IsDone};
+ghost use Rattle.cl_top.specs.{Commands.{IsOutcomeOf, TakesStepsOf, Why.IsWhyOf}, Subject.names_asked};
 
 use crate::Command;
 use crate::commands::witness::unknown;

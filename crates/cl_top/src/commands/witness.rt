@@ -3,9 +3,7 @@ ghost use Rattle.cl_runs.specs.SystemOf.{system_of};
 ghost use Rattle.cl_tight.specs.TightAnswers.{tight_answers_of};
 ghost use Rattle.cl_verify.specs.Witnesses.{IsWitness};
 ghost use Rattle.cl_engine.specs.Content.{Model};
-ghost use Rattle.cl_top.specs.Commands.{IsOutcomeOf, TakesStepsOf};
-ghost use Rattle.cl_top.specs.Commands.Witness.{name_unknown, run_refused, IsRunOutcome};
-ghost use Rattle.cl_top.specs.Subject.{section_word, names_asked};
+ghost use Rattle.cl_top.specs.{Commands.{IsOutcomeOf, TakesStepsOf, Witness.{name_unknown, run_refused, IsRunOutcome}}, Subject.{section_word, names_asked}};
 
 use crate::Command;
 use crate::commands::simulate::{refused, traced};

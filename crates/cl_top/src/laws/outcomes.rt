@@ -1,26 +1,11 @@
 //! Laws of outcomes: words have an outcome, and any two outcomes of them say the same.
 ghost use Rattle.std.specs.Prelude.{◌≡◌, ◌↔◌, ◌<◌, ℕ, List, [], Some, All, slice_index_or};
-ghost use Rattle.cl_model.specs.declared.model.SystemModel.{SystemModel};
-ghost use Rattle.cl_model.specs.Validity.{IsValid};
-ghost use Rattle.cl_edit.specs.declared.edit.Edit.{Edit};
-ghost use Rattle.cl_edit.specs.Ranges.{IsEditInRange};
+ghost use Rattle.cl_model.specs.{declared.model.SystemModel.SystemModel, Validity.IsValid};
+ghost use Rattle.cl_edit.specs.{declared.edit.Edit.Edit, Ranges.IsEditInRange};
 ghost use Rattle.cl_runs.specs.Run.{Run};
-ghost use Rattle.cl_top.specs.declared.command.Command.TheVariants.{Analyse, Replay};
-ghost use Rattle.cl_engine.specs.declared.outcome.Outcome.{Outcome};
-ghost use Rattle.cl_top.specs.declared.command.Command.{Command};
-ghost use Rattle.cl_engine.specs.Files.{File};
-ghost use Rattle.cl_engine.specs.Language.{files_of};
-ghost use Rattle.cl_top.specs.Command.{command_of};
-ghost use Rattle.cl_top.specs.Commands.{commands, SaysTheSame, of_run};
-ghost use Rattle.cl_top.specs.Commands.Edit.{AreAccepted, IsSafePiece};
-ghost use Rattle.cl_top.specs.Commands.Replay.{IsReplayed};
-ghost use Rattle.cl_engine.specs.Fetched.{Fetched, EachFile, WasFetched, told_fetch};
-ghost use Rattle.cl_top.specs.Migrated.{IsMigratedFile};
-ghost use Rattle.cl_engine.specs.declared.status.TheConstants.{DONE};
-ghost use Rattle.cl_top.specs.OfTrace.{IsOfRun};
-ghost use Rattle.cl_engine.specs.Outcome.{HasOutcome};
-ghost use Rattle.cl_top.specs.Reported.{IsPieceOfCommand};
+ghost use Rattle.cl_top.specs.{declared.command.Command.{TheVariants.{Analyse, Replay}, Command}, Command.command_of, Commands.{commands, SaysTheSame, of_run, Edit.{AreAccepted, IsSafePiece}, Replay.IsReplayed}, Migrated.IsMigratedFile, OfTrace.IsOfRun, Reported.IsPieceOfCommand};
 ghost use Rattle.cl_top.specs.Simulated.{IsSimulatedFile};
+ghost use Rattle.cl_engine.specs.{declared.{outcome.Outcome.Outcome, status.TheConstants.DONE}, Files.File, Language.files_of, Fetched.{Fetched, EachFile, WasFetched, told_fetch}, Outcome.HasOutcome};
 
 /// Words whose files were all fetched have an outcome.
 pub fn words_have_an_outcome()

@@ -2,15 +2,9 @@
 use Rattle.std.specs.Prelude.{◌≡◌, ◌≢◌, ℕ, ◌<◌, ◌≤◌, List, [], ◌∷◌, ◌++◌, ◌+◌, ◌-◌, replicate, Option, Some, None, length, map, slice_index_or, slice_set, All}
 use Rattle.std.specs.List.{flat_map, range_with_len}
 use Rattle.cl_text.specs.Standing.{NoneStands}
-use Rattle.cl_model.specs.declared.model.SystemModel.{SystemModel}
-use Rattle.cl_model.specs.ByNumber.{core_of}
-use Rattle.cl_runs.specs.declared.job.Job.{Job}
-use Rattle.cl_runs.specs.Run.{Run, IsEntryOf, core_entries}
-use Rattle.cl_runs.specs.SystemOf.{system_of}
-use Rattle.cl_trace.specs.Trace.{Item, Title, Ticks, JobOf, Runs, item_text, text_of, stretch_items, core_items}
-use Rattle.cl_trace.specs.declared.limits.TheConstants.{MOST_TRACE_TICKS}
-use Rattle.cl_trace.specs.Stretches.{stretches_of}
-use Rattle.cl_trace.specs.Rules.{IsJobOf, IsAboveRun}
+use Rattle.cl_model.specs.{declared.model.SystemModel.SystemModel, ByNumber.core_of}
+use Rattle.cl_runs.specs.{declared.job.Job.Job, Run.{Run, IsEntryOf, core_entries}, SystemOf.system_of}
+use Rattle.cl_trace.specs.{Trace.{Item, Title, Ticks, JobOf, Runs, item_text, text_of, stretch_items, core_items}, declared.limits.TheConstants.MOST_TRACE_TICKS, Stretches.stretches_of, Rules.{IsJobOf, IsAboveRun}}
 
 -- the jobs of a task, in the lines that a text begins with, and what follows them
 pub record AreJobsOf (model : SystemModel) (task : ℕ) (text : List ℕ) (jobs : List Job) (rest : List ℕ) : Type 0 where

@@ -3,11 +3,8 @@ use Rattle.std.specs.Prelude.{◌≡◌, ℕ, ◌^◌, ◌<◌, ◌≤◌, List,
 use Rattle.std.specs.Char.{IsAsciiDigit}
 use Rattle.std.specs.Str.Parse.{AllDigits, digits_value}
 use denote.Bor.{Bor}
-use Rattle.cl_model.specs.Name.{IsName}
-use Rattle.cl_model.specs.declared.model.SystemModel.{SystemModel}
-use Rattle.cl_model.specs.ByNumber.{task_at}
-use Rattle.cl_trace.specs.declared.limits.TheConstants.{MOST_TRACE_NUMBER}
-use Rattle.cl_trace.specs.Trace.{numbers}
+use Rattle.cl_model.specs.{Name.IsName, declared.model.SystemModel.SystemModel, ByNumber.task_at}
+use Rattle.cl_trace.specs.{declared.limits.TheConstants.MOST_TRACE_NUMBER, Trace.numbers}
 
 -- it answers this number, before this rest
 abbrev pub IsRead : Option (ℕ × Bor (List ℕ)) → ℕ → List ℕ → Type 0

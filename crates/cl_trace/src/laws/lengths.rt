@@ -1,14 +1,8 @@
 //! How long traces are.
 ghost use Rattle.std.specs.Prelude.{ℕ, ◌+◌, ◌*◌, ◌≤◌, length};
-ghost use Rattle.cl_model.specs.declared.model.SystemModel.{SystemModel};
-ghost use Rattle.cl_model.specs.AreNamed.{AreNamed};
-ghost use Rattle.cl_model.specs.Validity.{IsValid};
-ghost use Rattle.cl_runs.specs.TaskTiming.{System, IsSound};
-ghost use Rattle.cl_runs.specs.SystemOf.{system_of};
-ghost use Rattle.cl_runs.specs.Run.{Run};
-ghost use Rattle.cl_runs.specs.Legal.{IsLegal};
-ghost use Rattle.cl_trace.specs.Executions.{executions};
-ghost use Rattle.cl_trace.specs.Trace.{job_items, run_items, spelled};
+ghost use Rattle.cl_model.specs.{declared.model.SystemModel.SystemModel, AreNamed.AreNamed, Validity.IsValid};
+ghost use Rattle.cl_runs.specs.{TaskTiming.{System, IsSound}, SystemOf.system_of, Run.Run, Legal.IsLegal};
+ghost use Rattle.cl_trace.specs.{Executions.executions, Trace.{job_items, run_items, spelled}};
 
 /// A legal run has at most twice as many run lines as job lines: where a core turns to a task, a
 /// job of that task begins, or a job of another task of the core has just finished.

@@ -1,7 +1,6 @@
 //! The longest stretches of entries, computed from them.
 ghost use Rattle.std.specs.Prelude.{◌≡◌, ℕ, List, Option};
-ghost use Rattle.cl_run_data.specs.declared.stretches.Stretch.{Stretch};
-ghost use Rattle.cl_run_data.specs.Stretches.{AreStretchesOf};
+ghost use Rattle.cl_run_data.specs.{declared.stretches.Stretch.Stretch, Stretches.AreStretchesOf};
 ghost use Rattle.cl_trace.specs.Stretches.{stretches_of};
 
 /// The stretches that are computed from a list of entries are its longest stretches, and there are

@@ -1,14 +1,8 @@
 //! The traces of runs, and what a text is read as.
 ghost use Rattle.std.specs.Prelude.{◌≡◌, ◌≤◌, ◌⊎◌, ℕ, List};
-ghost use Rattle.cl_model.specs.declared.model.SystemModel.{SystemModel};
-ghost use Rattle.cl_model.specs.AreNamed.{AreNamed};
-ghost use Rattle.cl_model.specs.Validity.{IsValid};
-ghost use Rattle.cl_runs.specs.Run.{Run, IsInForm};
-ghost use Rattle.cl_runs.specs.SystemOf.{system_of};
-ghost use Rattle.cl_runs.specs.Legal.{IsLegal};
-ghost use Rattle.cl_trace.specs.declared.limits.TheConstants.{MOST_TRACE_TICKS};
-ghost use Rattle.cl_trace.specs.Trace.{spelled};
-ghost use Rattle.cl_trace.specs.Rules.{IsWithinLimits, IsTraceOf, IsBadTraceLine};
+ghost use Rattle.cl_model.specs.{declared.model.SystemModel.SystemModel, AreNamed.AreNamed, Validity.IsValid};
+ghost use Rattle.cl_runs.specs.{Run.{Run, IsInForm}, SystemOf.system_of, Legal.IsLegal};
+ghost use Rattle.cl_trace.specs.{declared.limits.TheConstants.MOST_TRACE_TICKS, Trace.spelled, Rules.{IsWithinLimits, IsTraceOf, IsBadTraceLine}};
 
 /// The text that spells a legal run of a valid model is a trace of that run where the run has at
 /// most `MOST_TRACE_TICKS` ticks.

@@ -3,13 +3,9 @@
 use Rattle.std.specs.Prelude.{◌≡◌, ℕ, zero, suc, Bool, false, not, ◌&&◌, ◌==◌, max, List, [], ◌∷◌, map, filter, find, is_some, Option, Some}
 use Rattle.std.specs.List.{list_all, list_any}
 use Rattle.std.specs.Option.{option_map, option_and_then}
-use Rattle.cl_model.specs.Timing.{greatest_jitter}
-use Rattle.cl_model.specs.ValidTasks.{spans_too_many}
+use Rattle.cl_model.specs.{Timing.greatest_jitter, ValidTasks.spans_too_many}
 use Rattle.cl_runs.specs.TaskTiming.{System, timing_at}
-use Rattle.cl_resp.specs.declared.question.Above.{Above}
-use Rattle.cl_resp.specs.declared.question.Question.{Question}
-use Rattle.cl_resp.specs.Question.{greatest_execution, longest_hold, taken_by}
-use Rattle.cl_resp.specs.Response.{response_to}
+use Rattle.cl_resp.specs.{declared.question.{Above.Above, Question.Question}, Question.{greatest_execution, longest_hold, taken_by}, Response.response_to}
 
 -- the tasks of a list but for one
 abbrev pub without : (task : ℕ) → List ℕ → List ℕ

@@ -1,20 +1,12 @@
 -- What is asked of the tasks of a model where they have other times. Times are in ticks.
 use Rattle.std.specs.Prelude.{◌≡◌, ℕ, ◌-◌, ◌<◌, Bool, false, cond, nat_le, nat_lt, List, length, map, filter, slice_index_or, sum_by}
 use Rattle.std.specs.List.{list_all}
-use Rattle.cl_model.specs.declared.limits.TheConstants.{MOST_TICKS}
-use Rattle.cl_model.specs.declared.model.SystemModel.{SystemModel}
-use Rattle.cl_model.specs.declared.task.RunnableDef.{RunnableDef}
-use Rattle.cl_model.specs.declared.task.TaskDef.{TaskDef}
+use Rattle.cl_model.specs.{declared.{limits.TheConstants.MOST_TICKS, model.SystemModel.SystemModel, task.{RunnableDef.RunnableDef, TaskDef.TaskDef}}, ByNumber.{task_at, core_of, deadline_of, jitter_of, tasks_of_core}, Holds.greatest_by}
 use Rattle.cl_model.specs.ByNumber as tasks
-use Rattle.cl_model.specs.ByNumber.{task_at, core_of, deadline_of, jitter_of, tasks_of_core}
-use Rattle.cl_model.specs.Holds.{greatest_by}
 use Rattle.cl_stim.specs.AnyStimulus.{as_stimulus}
-use Rattle.cl_resp.specs.declared.question.Above.{Above}
-use Rattle.cl_resp.specs.declared.question.Question.{Question}
-use Rattle.cl_resp.specs.Response.{response_to}
+use Rattle.cl_resp.specs.{declared.question.{Above.Above, Question.Question}, Response.response_to}
 use Rattle.cl_bound.specs.Answers.{answer_with, is_late}
-use Rattle.cl_tune.specs.declared.times.TaskTimes.{TaskTimes}
-use Rattle.cl_tune.specs.Scaled.{scaled_time}
+use Rattle.cl_tune.specs.{declared.times.TaskTimes.TaskTimes, Scaled.scaled_time}
 
 -- ---- scaled times
 

@@ -2,17 +2,10 @@
 -- runnable reads and writes.
 use Rattle.std.specs.Prelude.{◌≡◌, ℕ, List, [], Bool, ◌||◌, not, ◌∷◌, ◌+◌, map, slice_get, Option, Some}
 use Rattle.std.specs.Option.{option_and_then}
-use Rattle.cl_model.specs.declared.chain.ChainDef.{ChainDef}
-use Rattle.cl_model.specs.declared.chain.RequirementDef.{RequirementDef}
+use Rattle.cl_model.specs.{declared.{chain.{ChainDef.ChainDef, RequirementDef.RequirementDef}, place.Place.Place, refusal.{Code.TheVariants.{M44, M45, M46}, Refusal.Refusal}}, Named.{has_name, is_some_and, index_of, entry_named}, Place.{entry_of, at_key, at_spot}, Refusals.{when, unless}}
+use Rattle.cl_model.specs.{Refusals.{in_order, each}, Validity.lengths_check}
 use Rattle.cl_model.specs.declared.place.Part.TheVariants as part
 use Rattle.cl_model.specs.declared.place.Key.TheVariants as key
-use Rattle.cl_model.specs.declared.place.Place.{Place}
-use Rattle.cl_model.specs.declared.refusal.Code.TheVariants.{M44, M45, M46}
-use Rattle.cl_model.specs.declared.refusal.Refusal.{Refusal}
-use Rattle.cl_model.specs.Named.{has_name, is_some_and, index_of, entry_named}
-use Rattle.cl_model.specs.Place.{entry_of, at_key, at_spot}
-use Rattle.cl_model.specs.Refusals.{when, unless, in_order, each}
-use Rattle.cl_model.specs.Validity.{lengths_check}
 use Rattle.cl_valid.specs.declared.runnables.LabelUse.{LabelUse}
 
 -- what step k of a chain reads and writes

@@ -1,11 +1,6 @@
 -- The refusals of a model by parts, in the order in which they are checked.
 use Rattle.std.specs.Prelude.{List, [], ◌∷◌, ◌++◌}
-use Rattle.cl_model.specs.declared.model.SystemModel.{SystemModel}
-use Rattle.cl_model.specs.declared.refusal.Refusal.{Refusal}
-use Rattle.cl_model.specs.Refusals.{in_order, each}
-use Rattle.cl_model.specs.ValidNames.{stimulus_checks}
-use Rattle.cl_model.specs.ValidTasks.{task_checks, deadline_checks}
-use Rattle.cl_model.specs.Validity.{chain_check, requirement_check}
+use Rattle.cl_model.specs.{declared.{model.SystemModel.SystemModel, refusal.Refusal.Refusal}, Refusals.{in_order, each}, ValidNames.stimulus_checks, ValidTasks.{task_checks, deadline_checks}, Validity.{chain_check, requirement_check}}
 
 -- M42 to M46
 abbrev pub link_checks : SystemModel → List Refusal

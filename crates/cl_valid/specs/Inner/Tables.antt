@@ -1,14 +1,8 @@
 -- What checks keep for later ones: the names of a model, what its tasks take of their cores, and what its runnables
 -- read and write.
 use Rattle.std.specs.Prelude.{ℕ, List, [], map}
-use Rattle.cl_model.specs.declared.model.SystemModel.{SystemModel}
-use Rattle.cl_model.specs.declared.task.RunnableDef.{RunnableDef}
-use Rattle.cl_model.specs.declared.task.TaskDef.{TaskDef}
-use Rattle.cl_model.specs.Named.{core_names, stimulus_names, label_names, chain_names, runnable_names, kind_named, tasks_on, all_runnables, labels_written}
-use Rattle.cl_valid.specs.declared.names.Names.{Names}
-use Rattle.cl_valid.specs.declared.runnables.LabelUse.{LabelUse}
-use Rattle.cl_valid.specs.declared.shares.Share.{Share}
-use Rattle.cl_valid.specs.declared.tasks.TasksSoFar.{TasksSoFar}
+use Rattle.cl_model.specs.{declared.{model.SystemModel.SystemModel, task.{RunnableDef.RunnableDef, TaskDef.TaskDef}}, Named.{core_names, stimulus_names, label_names, chain_names, runnable_names, kind_named, tasks_on, all_runnables, labels_written}}
+use Rattle.cl_valid.specs.declared.{names.Names.Names, runnables.LabelUse.LabelUse, shares.Share.Share, tasks.TasksSoFar.TasksSoFar}
 
 -- the names that later checks look up
 abbrev pub names_of : SystemModel → Names

@@ -2,13 +2,7 @@
 use Rattle.std.specs.Prelude.{ℕ, Bool, nat_lt, ◌&&◌, ◌==◌, List, [], ◌∷◌, length, Some}
 use Rattle.std.specs.List.{list_any}
 use Rattle.cl_model.specs.declared.place.Key.TheVariants as key
-use Rattle.cl_model.specs.declared.refusal.Code.TheVariants.{M31}
-use Rattle.cl_model.specs.declared.refusal.Refusal.{Refusal}
-use Rattle.cl_model.specs.declared.stimulus.StimulusKind.{StimulusKind}
-use Rattle.cl_model.specs.declared.task.TaskDef.{TaskDef}
-use Rattle.cl_model.specs.Named.{is_some_and}
-use Rattle.cl_model.specs.Refusals.{when, in_order}
-use Rattle.cl_model.specs.ValidTasks.{task_key, late_check, release_check, room_check, empty_check, spans_too_many}
+use Rattle.cl_model.specs.{declared.{refusal.{Code.TheVariants.M31, Refusal.Refusal}, stimulus.StimulusKind.StimulusKind, task.TaskDef.TaskDef}, Named.is_some_and, Refusals.{when, in_order}, ValidTasks.{task_key, late_check, release_check, room_check, empty_check, spans_too_many}}
 use Rattle.cl_valid.specs.declared.shares.Share.{Share}
 
 -- M31 over shares

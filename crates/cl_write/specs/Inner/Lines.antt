@@ -1,7 +1,6 @@
 -- Lines of a document, each of a key and a value, or none where the value is left out.
 use Rattle.std.specs.Prelude.{ℕ, Bool, ◌==◌, if◌then◌else◌, List, [], ◌∷◌, ◌++◌, Option, Some, None, codes, decimal, flat_map}
-use Rattle.cl_model.specs.declared.place.Key.{Key}
-use Rattle.cl_model.specs.Place.{key_text}
+use Rattle.cl_model.specs.{declared.place.Key.Key, Place.key_text}
 
 -- a word between quotes
 unfoldable pub word_line : Key → List ℕ → List ℕ

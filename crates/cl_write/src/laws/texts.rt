@@ -1,8 +1,6 @@
 //! Texts of models.
 ghost use Rattle.std.specs.Prelude.{ℕ, List};
-ghost use Rattle.cl_model.specs.declared.model.SystemModel.{SystemModel};
-ghost use Rattle.cl_model.specs.AreNamed.{AreNamed};
-ghost use Rattle.cl_model.specs.Ranges.{IsInRange};
+ghost use Rattle.cl_model.specs.{declared.model.SystemModel.SystemModel, AreNamed.AreNamed, Ranges.IsInRange};
 ghost use Rattle.cl_write.specs.Texts.{IsTextOf};
 
 /// Each model in range whose names are of the name grammar has a text that is read as that model, of

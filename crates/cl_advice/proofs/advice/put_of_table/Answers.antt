@@ -1,13 +1,6 @@
 use Rattle.std.specs.Option.{option_copied}
 use Rattle.toml.specs.View.{table_view}
-use Rattle.cl_advice.specs.Advice.{advice_text}
-use Rattle.cl_advice.specs.Entry.{entry_line, runnable_line}
-use Rattle.cl_advice.specs.Found.{key_line, found_line}
-use Rattle.cl_advice.specs.Wanted.{wanted_line}
-use Rattle.cl_advice.specs.Measured.{measured_line}
-use Rattle.cl_advice.specs.Known.{known_line}
-use Rattle.cl_advice.specs.With.{with_lines}
-use Rattle.cl_advice.specs.Mend.{mend_line}
+use Rattle.cl_advice.specs.{Advice.advice_text, Entry.{entry_line, runnable_line}, Found.{key_line, found_line}, Wanted.wanted_line, Measured.measured_line, Known.known_line, With.with_lines, Mend.mend_line}
 use Rattle.cl_advice.proofs.Pieces.{nine_pieces}
 use Rattle.cl_advice.proofs.advice.put_of_table.Goals as goal
 

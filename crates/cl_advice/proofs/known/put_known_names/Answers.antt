@@ -3,10 +3,8 @@ use Rattle.std.specs.Prelude.{codes}
 use Rattle.std.proofs.Math.ListN.{length-map}
 use Rattle.std.proofs.lemmas.Bool.{true≢false}
 use Rattle.std.proofs.lemmas.Result.{on_ok_weaker}
-use Rattle.cl_advice.specs.declared.known.TheConstants.{MOST_KNOWN}
-use Rattle.cl_advice.specs.Known.{more_text}
-use Rattle.cl_advice.proofs.KnownNames.{known_is, first_names, map_some}
-use Rattle.cl_advice.proofs.Pieces.{lined_three}
+use Rattle.cl_advice.specs.{declared.known.TheConstants.MOST_KNOWN, Known.more_text}
+use Rattle.cl_advice.proofs.{KnownNames.{known_is, first_names, map_some}, Pieces.lined_three}
 use Rattle.cl_advice.proofs.known.put_known_names.Goals as goal
 
 pub returns : goal.returns

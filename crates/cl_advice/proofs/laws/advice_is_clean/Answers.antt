@@ -1,6 +1,4 @@
-use Rattle.cl_advice.proofs.CleanEdits.{clean_edit_advice}
-use Rattle.cl_advice.proofs.CleanMends.{clean_advice}
-use Rattle.cl_advice.proofs.CleanUnread.{clean_at, clean_unread}
+use Rattle.cl_advice.proofs.{CleanEdits.clean_edit_advice, CleanMends.clean_advice, CleanUnread.{clean_at, clean_unread}}
 use Rattle.cl_advice.proofs.laws.advice_is_clean.Goals as goal
 
 pub returns-clause-edit : goal.returns-clause-edit

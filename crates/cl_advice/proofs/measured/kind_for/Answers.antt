@@ -1,8 +1,6 @@
 use Rattle.std.proofs.Common.{sym, ap, ◌∙◌}
 use Rattle.std.specs.Option.{option_copied}
-use Rattle.cl_model.specs.declared.stimulus.StimulusDef.{StimulusDef}
-use Rattle.cl_model.specs.Named.{same_name}
-use Rattle.cl_model.specs.Ranges.{IsKindInRange}
+use Rattle.cl_model.specs.{declared.stimulus.StimulusDef.StimulusDef, Named.same_name, Ranges.IsKindInRange}
 use Rattle.cl_advice.proofs.FirstOf.{all_found}
 use Rattle.cl_advice.proofs.measured.kind_for.Goals as goal
 

@@ -1,7 +1,6 @@
 use Rattle.std.proofs.Common.{List, ℕ, ◌++◌, ◌*◌, ◌-◌, ap, ◌∙◌}
 use Rattle.std.specs.Prelude.{codes, decimal}
-use Rattle.cl_model.specs.declared.limits.TheConstants.{MOST_DISTANCES}
-use Rattle.cl_model.specs.Timing.{least_distance, greatest_jitter}
+use Rattle.cl_model.specs.{declared.limits.TheConstants.MOST_DISTANCES, Timing.{least_distance, greatest_jitter}}
 use Rattle.cl_advice.specs.Measured.{span_line}
 use Rattle.cl_advice.proofs.Pieces.{lined_five}
 use Rattle.cl_advice.proofs.measured.put_span.Goals as goal

@@ -1,14 +1,8 @@
 use Rattle.std.proofs.Common.{ℕ, List, ◌++◌, Option, ap, ◌∙◌}
 use Rattle.std.specs.Prelude.{option_map}
 use Rattle.std.specs.Option.{option_copied}
-use Rattle.cl_model.specs.declared.model.SystemModel.{SystemModel}
-use Rattle.cl_model.specs.Place.{key_text}
-use Rattle.cl_advice.specs.Found.{shown_key_line}
-use Rattle.cl_advice.specs.Known.{known_line}
-use Rattle.cl_advice.specs.Measured.{said_if, measured_line}
-use Rattle.cl_advice.specs.Mend.{mended_line}
-use Rattle.cl_advice.specs.OfEdits.{named_lines, full_line, edit_mend, edit_advice_text}
-use Rattle.cl_advice.specs.With.{with_lines}
+use Rattle.cl_model.specs.{declared.model.SystemModel.SystemModel, Place.key_text}
+use Rattle.cl_advice.specs.{Found.shown_key_line, Known.known_line, Measured.{said_if, measured_line}, Mend.mended_line, OfEdits.{named_lines, full_line, edit_mend, edit_advice_text}, With.with_lines}
 use Rattle.cl_advice.proofs.Pieces.{seven_pieces}
 use Rattle.cl_advice.proofs.of_edits.put_edit_advice.Goals as goal
 

@@ -2,8 +2,7 @@ use Rattle.std.proofs.Common.{◌≡◌, ℕ, List, ◌++◌, sym, ap, ◌∙◌
 use Rattle.std.specs.List.{flat_map}
 use Rattle.std.specs.Prelude.{codes}
 use Rattle.std.proofs.lemmas.List.Folds.{flat_map-map}
-use Rattle.cl_model.specs.declared.place.Key.{Key}
-use Rattle.cl_model.specs.Place.{key_text}
+use Rattle.cl_model.specs.{declared.place.Key.Key, Place.key_text}
 use Rattle.cl_advice.proofs.Pieces.{two_pieces}
 use Rattle.cl_advice.proofs.wanted.put_joined.Goals as goal
 

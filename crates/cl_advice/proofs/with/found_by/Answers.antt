@@ -1,8 +1,7 @@
 use Rattle.std.proofs.Common.{◌≡◌, ◌+◌, Bool, Option, Some, None, drop, refl, sym, ap, ◌∙◌}
 use Rattle.std.specs.List.{find}
 use Rattle.std.specs.Option.{option_or}
-use Rattle.cl_model.specs.declared.task.RunnableDef.{RunnableDef}
-use Rattle.cl_model.specs.Named.{all_runnables}
+use Rattle.cl_model.specs.{declared.task.RunnableDef.RunnableDef, Named.all_runnables}
 use Rattle.cl_advice.specs.With.{is_sought}
 use Rattle.cl_advice.proofs.Writers.{first_of_more}
 use Rattle.cl_advice.proofs.with.found_by.Goals as goal

@@ -1,7 +1,6 @@
 use Rattle.std.proofs.Common.{sym, ◌∙◌}
 use Rattle.cl_model.specs.ByNumber.{chain_at}
-use Rattle.cl_analyse.proofs.FirstLate.{settled_groups}
-use Rattle.cl_analyse.proofs.AnswerLists.{late_answer, bounds_answer}
+use Rattle.cl_analyse.proofs.{FirstLate.settled_groups, AnswerLists.{late_answer, bounds_answer}}
 use Rattle.cl_analyse.proofs.analysing.answer_chain.Goals as goal
 
 pub bound-requires-clause-not_late : goal.bound-requires-clause-not_late

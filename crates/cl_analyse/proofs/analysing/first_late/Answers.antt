@@ -1,7 +1,6 @@
 use Rattle.std.proofs.Common.{sym, ◌∙◌, arith}
 use Rattle.std.proofs.lemmas.List.Elements.{All-nil}
-use Rattle.cl_model.specs.Groups.{no_group}
-use Rattle.cl_model.specs.ByNumber.{chain_at}
+use Rattle.cl_model.specs.{Groups.no_group, ByNumber.chain_at}
 use Rattle.cl_analyse.proofs.FirstLate.{late_found, timely_more, timely_all, none_late}
 use Rattle.cl_analyse.proofs.analysing.first_late.Goals as goal
 

@@ -1,6 +1,5 @@
 use Rattle.std.proofs.Common.{sym, ap}
-use Rattle.cl_analyse.specs.declared.findings.ChainAnswer.TheVariants.{Late}
-use Rattle.cl_analyse.specs.Verdicts.{required_bound}
+use Rattle.cl_analyse.specs.{declared.findings.ChainAnswer.TheVariants.Late, Verdicts.required_bound}
 use Rattle.cl_analyse.proofs.AnswerLists.{nothing_at}
 use Rattle.cl_analyse.proofs.judging.required_bound.Goals as goal
 

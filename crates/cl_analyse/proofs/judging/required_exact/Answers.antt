@@ -1,6 +1,5 @@
 use Rattle.std.proofs.Common.{sym, ap}
-use Rattle.cl_analyse.specs.declared.findings.ExactAnswer.TheVariants.{ChainLate}
-use Rattle.cl_analyse.specs.Verdicts.{required_exact}
+use Rattle.cl_analyse.specs.{declared.findings.ExactAnswer.TheVariants.ChainLate, Verdicts.required_exact}
 use Rattle.cl_analyse.proofs.AnswerLists.{nothing_at}
 use Rattle.cl_analyse.proofs.judging.required_exact.Goals as goal
 

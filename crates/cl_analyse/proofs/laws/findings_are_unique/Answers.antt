@@ -1,5 +1,4 @@
-use Rattle.cl_analyse.proofs.SafeFindings.{one_findings}
-use Rattle.cl_analyse.proofs.SomeFindings.{some_findings}
+use Rattle.cl_analyse.proofs.{SafeFindings.one_findings, SomeFindings.some_findings}
 use Rattle.cl_analyse.proofs.laws.findings_are_unique.Goals as goal
 
 pub returns-clause-some : goal.returns-clause-some

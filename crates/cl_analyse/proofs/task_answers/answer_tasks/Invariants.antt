@@ -1,10 +1,7 @@
-use Rattle.std.proofs.Common.{ℕ, ◌+◌, ◌≤◌}
+use Rattle.std.proofs.Common.{◌+◌, ◌≤◌}
 use Rattle.std.specs.Prelude.{IfSome}
-use Rattle.cl_runs.specs.SystemOf.{system_of}
-use Rattle.cl_runs.specs.TaskTiming.{Timing}
-use Rattle.cl_resp.specs.Question.{either_question}
-use Rattle.cl_resp.specs.Reached.{HasReached}
-use Rattle.cl_resp.specs.Response.{response_to}
+use Rattle.cl_runs.specs.{SystemOf.system_of, TaskTiming.Timing}
+use Rattle.cl_resp.specs.{Question.either_question, Reached.HasReached, Response.response_to}
 use Rattle.cl_bound.specs.Answers.{answer_with}
 use Rattle.cl_analyse.proofs.TaskAnswers.{AreAnswered}
 use Rattle.cl_analyse.proofs.task_answers.answer_tasks.Given as goal

@@ -1,9 +1,7 @@
-use Rattle.std.proofs.Common.{◌≡◌, Some, None, Bool, sym, ap, ◌∙◌, subst, arith}
-use Rattle.std.specs.Prelude.{MatchResult}
+use Rattle.std.proofs.Common.{◌≡◌, Some, sym, ap, ◌∙◌, arith}
 use Rattle.cl_runs.specs.SystemOf.{system_of}
 use Rattle.cl_runs.proofs.ModelSystem.{count_is}
 use Rattle.cl_resp.specs.ByPhase.{response_by_phase}
-use Rattle.cl_resp.specs.Response.{Response}
 use Rattle.cl_asks.proofs.phases.put_response.Goals as goal
 
 pub put_in_time-requires-clause-settled : goal.put_in_time-requires-clause-settled

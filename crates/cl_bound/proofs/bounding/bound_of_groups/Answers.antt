@@ -2,8 +2,7 @@ use Rattle.std.proofs.lemmas.List.Elements.{All-drop}
 use Rattle.cl_model.specs.Groups.{IsGroupOf, no_group}
 use Rattle.cl_runs.specs.SystemOf.{system_of}
 use Rattle.cl_runs.proofs.ModelSystem.{system_sound}
-use Rattle.cl_bound.proofs.BoundSums.{rest_is, is_settled, have_bounds, bounds_are}
-use Rattle.cl_bound.proofs.SettledChains.{only_bounds, settled_safe}
+use Rattle.cl_bound.proofs.{BoundSums.{rest_is, is_settled, have_bounds, bounds_are}, SettledChains.{only_bounds, settled_safe}}
 use Rattle.cl_bound.proofs.bounding.bound_of_groups.Goals as goal
 
 pub sums_along-requires-clause-of_tasks : goal.sums_along-requires-clause-of_tasks

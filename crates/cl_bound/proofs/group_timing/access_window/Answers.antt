@@ -1,7 +1,6 @@
 use Rattle.std.proofs.Common.{arith, ap, sym, ◌∙◌}
 use Rattle.cl_model.specs.declared.task.TaskDef.{TaskDef}
-use Rattle.cl_runs.specs.TaskTiming.{Timing, timing_at}
-use Rattle.cl_runs.specs.SystemOf.{system_of}
+use Rattle.cl_runs.specs.{TaskTiming.{Timing, timing_at}, SystemOf.system_of}
 use Rattle.cl_comm.specs.Windows.{window_of}
 use Rattle.cl_runs.proofs.ModelSystem.{timing_is, count_is, range_count_is, system_sound}
 use Rattle.cl_bound.proofs.GroupWindows.{spot_fits, spot_in_time}

@@ -1,8 +1,7 @@
 use Rattle.std.proofs.Common.{◌-◌, ◌<◌, length, arith}
 use Rattle.std.proofs.lemmas.Result.{IfOk-weaker}
 use Rattle.cl_chain.specs.JobChains.{option_of}
-use Rattle.cl_chain.proofs.TailFacts.{writes_looked_up}
-use Rattle.cl_chain.proofs.BackwardFacts.{age_found, no_age}
+use Rattle.cl_chain.proofs.{TailFacts.writes_looked_up, BackwardFacts.{age_found, no_age}}
 use Rattle.cl_chain.proofs.backward_jobs.age_over.Goals as goal
 
 pub returns-in-Some : goal.returns-in-Some

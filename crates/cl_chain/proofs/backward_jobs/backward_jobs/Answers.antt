@@ -1,6 +1,5 @@
 use Rattle.std.proofs.Common.{◌-◌, ◌<◌, length, sym, ◌∙◌, arith}
-use Rattle.cl_chain.proofs.TailFacts.{writes_looked_up, reads_looked_up}
-use Rattle.cl_chain.proofs.BackwardFacts.{backward_ends_there}
+use Rattle.cl_chain.proofs.{TailFacts.{writes_looked_up, reads_looked_up}, BackwardFacts.backward_ends_there}
 use Rattle.cl_chain.proofs.backward_jobs.backward_jobs.Goals as goal
 
 pub returns-in_default : goal.returns-in_default

@@ -1,8 +1,7 @@
 use Rattle.std.proofs.Common.{◌≡◌, ℕ, Option, None, List, sym, ap, ◌∙◌}
 use Rattle.std.specs.Prelude.{slice_index}
 use Rattle.cl_chain.specs.Inner.GroupTables.{moment_at, reads_in}
-use Rattle.cl_chain.proofs.TailFacts.{reads_looked_up}
-use Rattle.cl_chain.proofs.BackwardFacts.{no_first_read}
+use Rattle.cl_chain.proofs.{TailFacts.reads_looked_up, BackwardFacts.no_first_read}
 use Rattle.cl_chain.proofs.backward_jobs.backward_to.Goals as goal
 
 pub returns-in-None : goal.returns-in-None

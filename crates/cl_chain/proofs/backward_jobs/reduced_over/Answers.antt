@@ -1,8 +1,7 @@
 use Rattle.std.proofs.Common.{◌-◌, ◌<◌, length, arith}
 use Rattle.std.proofs.lemmas.Result.{IfOk-weaker}
 use Rattle.cl_chain.specs.JobChains.{option_of}
-use Rattle.cl_chain.proofs.TailFacts.{writes_looked_up}
-use Rattle.cl_chain.proofs.BackwardFacts.{reduced_found, no_reduced}
+use Rattle.cl_chain.proofs.{TailFacts.writes_looked_up, BackwardFacts.{reduced_found, no_reduced}}
 use Rattle.cl_chain.proofs.backward_jobs.reduced_over.Goals as goal
 
 pub returns-in-Some : goal.returns-in-Some

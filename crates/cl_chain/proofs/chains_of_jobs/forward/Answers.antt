@@ -2,8 +2,7 @@ use Rattle.std.proofs.Common.{◌<◌, length, arith}
 use Rattle.std.proofs.lemmas.Result.{IfOk-weaker}
 use Rattle.cl_model.specs.Groups.{groups_at}
 use Rattle.cl_runs.specs.SystemOf.{system_of}
-use Rattle.cl_chain.specs.JobChains.{option_of}
-use Rattle.cl_chain.specs.Inner.GroupTables.{AreTables}
+use Rattle.cl_chain.specs.{JobChains.option_of, Inner.GroupTables.AreTables}
 use Rattle.cl_chain.proofs.RunTables.{forward_answer}
 use Rattle.cl_chain.proofs.chains_of_jobs.forward.Goals as goal
 

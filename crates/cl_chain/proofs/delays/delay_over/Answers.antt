@@ -1,7 +1,4 @@
-use Rattle.cl_chain.specs.GreatestDelays.{IsGreatestDelay}
-use Rattle.cl_chain.specs.JobChains.{job_chain_of}
-use Rattle.cl_chain.specs.Inner.ChainsOver.{IsForwardOver}
-use Rattle.cl_chain.specs.Inner.Events.{after_event}
+use Rattle.cl_chain.specs.{GreatestDelays.IsGreatestDelay, JobChains.job_chain_of, Inner.{ChainsOver.IsForwardOver, Events.after_event}}
 use Rattle.cl_chain.proofs.EventTables.{delay_measured}
 use Rattle.cl_chain.proofs.delays.delay_over.Goals as goal
 

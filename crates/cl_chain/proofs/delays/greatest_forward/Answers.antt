@@ -2,8 +2,7 @@ use Rattle.std.proofs.Common.{ℕ, List, ap}
 use Rattle.std.specs.Prelude.{slice_index}
 use Rattle.std.proofs.lemmas.Result.{IfOk-weaker}
 use Rattle.cl_runs.specs.Chains.{first_job}
-use Rattle.cl_chain.specs.JobChains.{option_of}
-use Rattle.cl_chain.specs.Inner.ChainsOver.{IsForwardOver}
+use Rattle.cl_chain.specs.{JobChains.option_of, Inner.ChainsOver.IsForwardOver}
 use Rattle.cl_chain.proofs.RowFacts.{greatest_row, no_rows}
 use Rattle.cl_chain.proofs.delays.greatest_forward.Goals as goal
 

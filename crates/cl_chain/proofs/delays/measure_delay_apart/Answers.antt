@@ -1,10 +1,8 @@
 use Rattle.std.proofs.lemmas.Result.{IfOk-weaker}
 use Rattle.cl_model.specs.Groups.{groups_at}
 use Rattle.cl_runs.specs.SystemOf.{system_of}
-use Rattle.cl_chain.specs.JobChains.{option_of}
-use Rattle.cl_chain.specs.Inner.Events.{AreEventTables}
-use Rattle.cl_chain.proofs.EventTables.{events_ordered, delay_answer}
-use Rattle.cl_chain.proofs.GreatestDelayFacts.{shown_delay_measured}
+use Rattle.cl_chain.specs.{JobChains.option_of, Inner.Events.AreEventTables}
+use Rattle.cl_chain.proofs.{EventTables.{events_ordered, delay_answer}, GreatestDelayFacts.shown_delay_measured}
 use Rattle.cl_chain.proofs.delays.measure_delay_apart.Goals as goal
 
 pub delay_over-requires : goal.delay_over-requires

@@ -1,10 +1,7 @@
 use Rattle.cl_model.specs.Groups.{groups_at}
 use Rattle.cl_runs.specs.SystemOf.{system_of}
-use Rattle.cl_chain.specs.JobChains.{option_of, measured_of}
-use Rattle.cl_chain.specs.Inner.GroupTables.{AreTables}
-use Rattle.cl_chain.specs.Inner.Events.{AreEventTables}
-use Rattle.cl_chain.proofs.RunTables.{measured_answer, tables_ordered}
-use Rattle.cl_chain.proofs.EventTables.{events_ordered, delay_answer}
+use Rattle.cl_chain.specs.{JobChains.{option_of, measured_of}, Inner.{GroupTables.AreTables, Events.AreEventTables}}
+use Rattle.cl_chain.proofs.{RunTables.{measured_answer, tables_ordered}, EventTables.{events_ordered, delay_answer}}
 use Rattle.cl_chain.proofs.delays.measure_with_delay_apart.Goals as goal
 
 pub measured_over-requires : goal.measured_over-requires

@@ -1,13 +1,9 @@
 use Rattle.std.proofs.Common.{◌≡◌, ◌<◌, Option, List, ◌∷◌, None, ℕ, length, set, ap, ◌∙◌, subst, arith}
 use Rattle.cl_model.specs.declared.group.Group.{Group}
-use Rattle.cl_runs.specs.declared.job.JobTable.{JobTable}
-use Rattle.cl_runs.specs.Table.{table_jobs}
+use Rattle.cl_runs.specs.{declared.job.JobTable.JobTable, Table.table_jobs}
 use Rattle.cl_runs.proofs.ModelSystem.{count_is}
-use Rattle.cl_chain.specs.declared.group_moments.GroupMoments.{GroupMoments}
-use Rattle.cl_chain.specs.Inner.GroupTables.{AreMomentsAt, writes_in}
-use Rattle.cl_chain.specs.Inner.Events.{JobArrives}
-use Rattle.cl_chain.proofs.TailFacts.{writes_looked_up}
-use Rattle.cl_chain.proofs.EventTables.{arrivals_listed}
+use Rattle.cl_chain.specs.{declared.group_moments.GroupMoments.GroupMoments, Inner.{GroupTables.{AreMomentsAt, writes_in}, Events.JobArrives}}
+use Rattle.cl_chain.proofs.{TailFacts.writes_looked_up, EventTables.arrivals_listed}
 use Rattle.cl_chain.proofs.delays.with_events.Goals as goal
 
 pub jobs_of-requires : goal.jobs_of-requires

@@ -1,8 +1,6 @@
 use Rattle.std.proofs.Common.{ℕ, ◌<◌, length, sym, ◌∙◌, subst, arith}
-use Rattle.cl_chain.specs.declared.group_moments.GroupMoments.{GroupMoments}
-use Rattle.cl_chain.specs.Inner.Hops.{IsFirstReader, IsWrite}
-use Rattle.cl_chain.proofs.TailFacts.{group_looked_up}
-use Rattle.cl_chain.proofs.ForwardFacts.{forward_ends, forward_pushed, job_before}
+use Rattle.cl_chain.specs.{declared.group_moments.GroupMoments.GroupMoments, Inner.Hops.{IsFirstReader, IsWrite}}
+use Rattle.cl_chain.proofs.{TailFacts.group_looked_up, ForwardFacts.{forward_ends, forward_pushed, job_before}}
 use Rattle.cl_chain.proofs.forward_jobs.forward_over.Goals as goal
 
 pub returns-in_default-reader_of : goal.returns-in_default-reader_of

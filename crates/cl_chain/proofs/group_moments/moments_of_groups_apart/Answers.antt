@@ -1,8 +1,6 @@
 use Rattle.std.proofs.Common.{◌≡◌, ℕ, ◌<◌, List, ◌∷◌, [], length, sym, ap, ◌∙◌, subst, length-append, arith}
-use Rattle.cl_model.specs.declared.group.Group.{Group}
-use Rattle.cl_model.specs.Groups.{groups_at, group_at}
-use Rattle.cl_runs.specs.SystemOf.{system_of}
-use Rattle.cl_runs.specs.Run.{Run, jobs_of}
+use Rattle.cl_model.specs.{declared.group.Group.Group, Groups.{groups_at, group_at}}
+use Rattle.cl_runs.specs.{SystemOf.system_of, Run.{Run, jobs_of}}
 use Rattle.cl_check.specs.InOrder.{AreTimesPositive, AreGroupsInOrder}
 use Rattle.cl_chain.specs.declared.group_moments.GroupMoments.{GroupMoments}
 use Rattle.cl_chain.proofs.GroupReads.{reads_pushed, writes_pushed}

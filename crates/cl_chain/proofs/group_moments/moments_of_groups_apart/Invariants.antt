@@ -1,7 +1,6 @@
 use Rattle.std.proofs.Common.{◌≡◌, ℕ, ◌<◌, length}
 use Rattle.cl_model.specs.Groups.{groups_at, group_at}
-use Rattle.cl_runs.specs.SystemOf.{system_of}
-use Rattle.cl_runs.specs.Moments.{Reads, Writes}
+use Rattle.cl_runs.specs.{SystemOf.system_of, Moments.{Reads, Writes}}
 use Rattle.cl_chain.specs.Inner.GroupTables.{AreMomentsAt, reads_in, writes_in}
 use Rattle.cl_chain.proofs.group_moments.moments_of_groups_apart.Given as goal
 

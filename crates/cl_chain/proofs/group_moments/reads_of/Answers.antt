@@ -1,7 +1,6 @@
 use Rattle.std.proofs.Common.{length, ap, ◌∙◌, arith}
 use Rattle.std.proofs.lemmas.Result.{IfOk-weaker}
-use Rattle.cl_runs.specs.declared.job.JobTable.{JobTable}
-use Rattle.cl_runs.specs.Table.{table_jobs}
+use Rattle.cl_runs.specs.{declared.job.JobTable.JobTable, Table.table_jobs}
 use Rattle.cl_runs.proofs.ModelSystem.{count_is}
 use Rattle.cl_chain.proofs.GroupReads.{reads_explicitly, reads_implicitly, reads_timed}
 use Rattle.cl_chain.proofs.group_moments.reads_of.Goals as goal

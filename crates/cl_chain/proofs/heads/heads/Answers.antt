@@ -1,8 +1,6 @@
 use Rattle.std.proofs.Common.{◌≡◌, ◌-◌, ◌+◌, ◌<◌, length, subst, arith}
-use Rattle.cl_chain.specs.Inner.GroupTables.{AreMomentsAt}
-use Rattle.cl_chain.specs.Inner.ChainsOver.{IsHead}
-use Rattle.cl_chain.proofs.TailFacts.{writes_looked_up, reads_looked_up}
-use Rattle.cl_chain.proofs.HeadFacts.{head_found}
+use Rattle.cl_chain.specs.Inner.{GroupTables.AreMomentsAt, ChainsOver.IsHead}
+use Rattle.cl_chain.proofs.{TailFacts.{writes_looked_up, reads_looked_up}, HeadFacts.head_found}
 use Rattle.cl_chain.proofs.heads.heads.Goals as goal
 
 pub loop-place-preserved : goal.loop-place-preserved

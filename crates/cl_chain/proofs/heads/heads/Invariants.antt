@@ -1,6 +1,5 @@
 use Rattle.std.proofs.Common.{◌-◌}
-use Rattle.cl_chain.specs.Inner.GroupTables.{AreMomentsAt}
-use Rattle.cl_chain.specs.Inner.ChainsOver.{IsHead}
+use Rattle.cl_chain.specs.Inner.{GroupTables.AreMomentsAt, ChainsOver.IsHead}
 use Rattle.cl_chain.proofs.heads.heads.Given as goal
 
 abbrev pub invariant-loop-place : goal.invariant-loop-place

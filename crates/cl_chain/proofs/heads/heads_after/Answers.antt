@@ -1,7 +1,6 @@
 use Rattle.std.proofs.Common.{arith}
 use Rattle.cl_chain.specs.Inner.Hops.{GoesOnFrom}
-use Rattle.cl_chain.proofs.MomentLists.{all_moments}
-use Rattle.cl_chain.proofs.HeadFacts.{goes_from_once, goes_from_within}
+use Rattle.cl_chain.proofs.{MomentLists.all_moments, HeadFacts.{goes_from_once, goes_from_within}}
 use Rattle.cl_chain.proofs.heads.heads_after.Goals as goal
 
 pub returns : goal.returns

@@ -1,7 +1,6 @@
 use Rattle.std.proofs.Common.{◌∙◌}
 use Rattle.std.proofs.lemmas.Result.{IfOk-weaker}
-use Rattle.cl_chain.proofs.TailFacts.{reads_looked_up}
-use Rattle.cl_chain.proofs.MeasuredFacts.{rows_of_forward}
+use Rattle.cl_chain.proofs.{TailFacts.reads_looked_up, MeasuredFacts.rows_of_forward}
 use Rattle.cl_chain.proofs.measuring.forward_rows.Goals as goal
 
 pub returns : goal.returns

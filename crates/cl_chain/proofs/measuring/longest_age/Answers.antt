@@ -2,8 +2,7 @@ use Rattle.std.proofs.Common.{ℕ, List, ap}
 use Rattle.std.specs.Prelude.{slice_index}
 use Rattle.std.proofs.lemmas.Result.{IfOk-weaker}
 use Rattle.cl_runs.specs.Chains.{last_job}
-use Rattle.cl_chain.specs.JobChains.{option_of}
-use Rattle.cl_chain.specs.Inner.ChainsOver.{IsAgeOver}
+use Rattle.cl_chain.specs.{JobChains.option_of, Inner.ChainsOver.IsAgeOver}
 use Rattle.cl_chain.proofs.RowFacts.{longest_row, no_rows, rows_ordered}
 use Rattle.cl_chain.proofs.measuring.longest_age.Goals as goal
 

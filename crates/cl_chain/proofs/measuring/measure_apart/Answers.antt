@@ -2,8 +2,7 @@ use Rattle.std.proofs.Common.{◌<◌, length}
 use Rattle.std.proofs.lemmas.Result.{IfOk-weaker}
 use Rattle.cl_model.specs.Groups.{groups_at}
 use Rattle.cl_runs.specs.SystemOf.{system_of}
-use Rattle.cl_chain.specs.JobChains.{measured_of}
-use Rattle.cl_chain.specs.Inner.GroupTables.{AreTables}
+use Rattle.cl_chain.specs.{JobChains.measured_of, Inner.GroupTables.AreTables}
 use Rattle.cl_chain.proofs.RunTables.{measured_answer, tables_ordered}
 use Rattle.cl_chain.proofs.measuring.measure_apart.Goals as goal
 

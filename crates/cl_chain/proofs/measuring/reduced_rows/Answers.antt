@@ -1,7 +1,6 @@
 use Rattle.std.proofs.Common.{◌-◌, ◌<◌, length, arith}
 use Rattle.std.proofs.lemmas.Result.{IfOk-weaker}
-use Rattle.cl_chain.proofs.TailFacts.{writes_looked_up}
-use Rattle.cl_chain.proofs.MeasuredFacts.{rows_of_reduced}
+use Rattle.cl_chain.proofs.{TailFacts.writes_looked_up, MeasuredFacts.rows_of_reduced}
 use Rattle.cl_chain.proofs.measuring.reduced_rows.Goals as goal
 
 pub returns : goal.returns

@@ -1,7 +1,6 @@
 use Rattle.std.proofs.Common.{arith}
 use Rattle.cl_chain.specs.Inner.Hops.{IsBeforeNext}
-use Rattle.cl_chain.proofs.MomentLists.{all_moments, has_place}
-use Rattle.cl_chain.proofs.MeasuredFacts.{before_once}
+use Rattle.cl_chain.proofs.{MomentLists.{all_moments, has_place}, MeasuredFacts.before_once}
 use Rattle.cl_chain.proofs.measuring.replaced_writes.Goals as goal
 
 pub returns : goal.returns

@@ -1,7 +1,6 @@
 use Rattle.std.proofs.Common.{◌≡◌, ℕ, ◌<◌, length}
 use Rattle.cl_check.specs.JobMoments.{IsMomentOf}
-use Rattle.cl_chain.specs.Inner.GroupTables.{moment_at}
-use Rattle.cl_chain.specs.Inner.Hops.{IsBeforeNext}
+use Rattle.cl_chain.specs.Inner.{GroupTables.moment_at, Hops.IsBeforeNext}
 use Rattle.cl_chain.proofs.measuring.replaced_writes.Given as goal
 
 abbrev pub invariant-loop-job : goal.invariant-loop-job

@@ -1,7 +1,6 @@
 use Rattle.std.proofs.Common.{arith}
 use Rattle.cl_chain.specs.Inner.Hops.{IsWrite}
-use Rattle.cl_chain.proofs.MomentLists.{all_moments, has_place}
-use Rattle.cl_chain.proofs.HopFacts.{write_once}
+use Rattle.cl_chain.proofs.{MomentLists.{all_moments, has_place}, HopFacts.write_once}
 use Rattle.cl_chain.proofs.tails.last_tails.Goals as goal
 
 pub returns : goal.returns

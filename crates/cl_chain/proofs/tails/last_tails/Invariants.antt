@@ -1,7 +1,6 @@
 use Rattle.std.proofs.Common.{◌≡◌, ℕ, ◌<◌, length}
 use Rattle.cl_check.specs.JobMoments.{IsMomentOf}
-use Rattle.cl_chain.specs.Inner.GroupTables.{moment_at}
-use Rattle.cl_chain.specs.Inner.Hops.{IsWrite}
+use Rattle.cl_chain.specs.Inner.{GroupTables.moment_at, Hops.IsWrite}
 use Rattle.cl_chain.proofs.tails.last_tails.Given as goal
 
 abbrev pub invariant-loop-job : goal.invariant-loop-job

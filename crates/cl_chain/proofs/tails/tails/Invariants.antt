@@ -1,6 +1,5 @@
 use Rattle.std.proofs.Common.{◌<◌, length, drop}
-use Rattle.cl_chain.specs.Inner.GroupTables.{AreMomentsAt}
-use Rattle.cl_chain.specs.Inner.ChainsOver.{IsTail}
+use Rattle.cl_chain.specs.Inner.{GroupTables.AreMomentsAt, ChainsOver.IsTail}
 use Rattle.cl_chain.proofs.tails.tails.Given as goal
 
 abbrev pub invariant-loop-place : goal.invariant-loop-place

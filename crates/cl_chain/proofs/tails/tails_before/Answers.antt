@@ -1,7 +1,6 @@
 use Rattle.std.proofs.Common.{arith}
 use Rattle.cl_chain.specs.Inner.Hops.{GoesOnTo}
-use Rattle.cl_chain.proofs.MomentLists.{all_moments}
-use Rattle.cl_chain.proofs.TailFacts.{goes_to_once, goes_to_within}
+use Rattle.cl_chain.proofs.{MomentLists.all_moments, TailFacts.{goes_to_once, goes_to_within}}
 use Rattle.cl_chain.proofs.tails.tails_before.Goals as goal
 
 pub returns : goal.returns

@@ -4,8 +4,7 @@ use Rattle.std.proofs.lemmas.List.{get_or_default}
 use Rattle.cl_runs.specs.SystemOf.{system_of}
 use Rattle.cl_runs.proofs.ModelSystem.{cores_are}
 use Rattle.cl_run_data.specs.declared.stretches.Stretch.{Stretch}
-use Rattle.cl_check.proofs.FollowedRuns.{begins_first, begins_next, some_at, lasts_at, all_over}
-use Rattle.cl_check.proofs.ApartTasks.{takes_ticks, more_apart, core_apart}
+use Rattle.cl_check.proofs.{FollowedRuns.{begins_first, begins_next, some_at, lasts_at, all_over}, ApartTasks.{takes_ticks, more_apart, core_apart}}
 use Rattle.cl_check.proofs.apart.add_core.Goals as goal
 
 pub stretches-stretch-items-requires : goal.stretches-stretch-items-requires

@@ -1,7 +1,5 @@
 use Rattle.std.proofs.Common.{[], replicate, sym, ap, ◌∙◌, arith}
-use Rattle.cl_runs.specs.declared.job.JobTable.{JobTable}
-use Rattle.cl_runs.specs.Run.{Run}
-use Rattle.cl_runs.specs.SystemOf.{system_of}
+use Rattle.cl_runs.specs.{declared.job.JobTable.JobTable, Run.Run, SystemOf.system_of}
 use Rattle.cl_runs.proofs.ModelSystem.{count_is, cores_are, system_sound}
 use Rattle.cl_check.proofs.ApartTasks.{none_apart, all_apart}
 use Rattle.cl_check.proofs.apart.tasks_apart.Goals as goal

@@ -1,11 +1,9 @@
 use Rattle.std.proofs.Common.{◌≡◌, [], length, ap, sym, ◌∙◌}
 use Rattle.std.proofs.lemmas.Result.{err_from_is_err_and}
-use Rattle.cl_runs.specs.declared.job.JobTable.{JobTable}
-use Rattle.cl_runs.specs.SystemOf.{system_of}
+use Rattle.cl_runs.specs.{declared.job.JobTable.JobTable, SystemOf.system_of}
 use Rattle.cl_runs.proofs.ModelSystem.{count_is}
 use Rattle.cl_check.specs.Legality.{table_faults}
-use Rattle.cl_check.proofs.LawfulFaults.{faultless_lawful}
-use Rattle.cl_check.proofs.BrokenRules.{checked_legal, broken_table, broken_schedule}
+use Rattle.cl_check.proofs.{LawfulFaults.faultless_lawful, BrokenRules.{checked_legal, broken_table, broken_schedule}}
 use Rattle.cl_check.proofs.checking.check_rules.Goals as goal
 
 pub check_table-requires : goal.check_table-requires

@@ -1,7 +1,6 @@
 use Rattle.std.proofs.Common.{length, ap, ◌∙◌, subst, sym, below_more, arith, rules}
 use Rattle.std.proofs.lemmas.Bool.{false≢true}
-use Rattle.cl_runs.specs.declared.job.JobTable.{JobTable}
-use Rattle.cl_runs.specs.Table.{table_jobs}
+use Rattle.cl_runs.specs.{declared.job.JobTable.JobTable, Table.table_jobs}
 use Rattle.cl_runs.proofs.ModelSystem.{count_is}
 use Rattle.cl_check.specs.InOrder.{AreJobsInOrder}
 use Rattle.cl_check.proofs.in_order.is_in_order.Goals as goal

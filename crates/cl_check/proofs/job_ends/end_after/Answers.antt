@@ -1,9 +1,6 @@
 use Rattle.std.proofs.Common.{rules, ◌≡◌, ℕ, ◌+◌, ◌-◌, ◌^◌, min, Option, None, Some, List, sym, subst, arith}
 use Rattle.cl_run_data.specs.Stretches.{entries_from}
-use Rattle.cl_check.specs.declared.job_ends.End.{End}
-use Rattle.cl_check.specs.declared.job_ends.End.TheVariants.{Start, Finish}
-use Rattle.cl_check.specs.JobMoments.{IsMomentOf}
-use Rattle.cl_check.specs.Inner.Walks.{RunsAfter, EndsAfter, IsEndAfter}
+use Rattle.cl_check.specs.{declared.job_ends.End.{End, TheVariants.{Start, Finish}}, JobMoments.IsMomentOf, Inner.Walks.{RunsAfter, EndsAfter, IsEndAfter}}
 use Rattle.cl_check.proofs.job_ends.end_after.Goals as goal
 
 module _ (entries : List (Option ℕ)) (task before own : ℕ) (end : End) where

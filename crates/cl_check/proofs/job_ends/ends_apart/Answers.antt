@@ -1,8 +1,7 @@
 use Rattle.std.proofs.Common.{length, refl, ap, ◌∙◌, arith}
 use Rattle.std.proofs.lemmas.Result.{IfOk-weaker}
 use Rattle.cl_model.specs.ByNumber.{core_of}
-use Rattle.cl_runs.specs.declared.job.JobTable.{JobTable}
-use Rattle.cl_runs.specs.Table.{table_jobs}
+use Rattle.cl_runs.specs.{declared.job.JobTable.JobTable, Table.table_jobs}
 use Rattle.cl_runs.proofs.ModelSystem.{count_is}
 use Rattle.cl_check.proofs.MomentsOfRun.{jobs_within, each_has_place, each_has_time, ends_are_apart}
 use Rattle.cl_check.proofs.job_ends.ends_apart.Goals as goal

@@ -1,7 +1,6 @@
 use Rattle.std.proofs.Common.{length, ap, ◌∙◌, arith}
 use Rattle.std.proofs.lemmas.Result.{IfOk-weaker}
-use Rattle.cl_runs.specs.declared.job.JobTable.{JobTable}
-use Rattle.cl_runs.specs.Table.{table_jobs}
+use Rattle.cl_runs.specs.{declared.job.JobTable.JobTable, Table.table_jobs}
 use Rattle.cl_check.proofs.MomentsOfRun.{core_within, jobs_within, each_has_place, each_has_time, moments_are}
 use Rattle.cl_check.proofs.job_moments.moments.Goals as goal
 

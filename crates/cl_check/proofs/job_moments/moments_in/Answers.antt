@@ -1,8 +1,7 @@
 use Rattle.std.proofs.Common.{◌≡◌, ℕ, ◌<◌, ◌≤◌, List, [], ◌∷◌, length, ap, ◌∙◌, arith}
 use Rattle.std.specs.Prelude.{slice_index}
 use Rattle.std.proofs.lemmas.List.{get_or_default, length-append}
-use Rattle.cl_runs.specs.declared.job.Job.{Job}
-use Rattle.cl_runs.specs.Table.{no_job, job_at}
+use Rattle.cl_runs.specs.{declared.job.Job.Job, Table.{no_job, job_at}}
 use Rattle.cl_check.proofs.MomentsFound.{done_next, ahead_next, moments_pushed}
 use Rattle.cl_check.proofs.job_moments.moments_in.Goals as goal
 

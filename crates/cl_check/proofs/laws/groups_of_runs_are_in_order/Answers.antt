@@ -1,5 +1,4 @@
-use Rattle.cl_check.proofs.JobsInOrder.{groups_in_order}
-use Rattle.cl_check.proofs.ModelsInOrder.{chain_in_order}
+use Rattle.cl_check.proofs.{JobsInOrder.groups_in_order, ModelsInOrder.chain_in_order}
 use Rattle.cl_check.proofs.laws.groups_of_runs_are_in_order.Goals as goal
 
 pub returns-clause-groups : goal.returns-clause-groups

@@ -1,8 +1,5 @@
 use Rattle.std.proofs.Common.{◌<◌, ◌-◌, ◌++◌, replicate, take, sym, subst, arith}
-use Rattle.cl_runs.specs.declared.job.JobTable.{JobTable}
-use Rattle.cl_runs.specs.Table.{IsLawful}
-use Rattle.cl_runs.specs.Run.{core_entries}
-use Rattle.cl_runs.specs.SystemOf.{system_of}
+use Rattle.cl_runs.specs.{declared.job.JobTable.JobTable, Table.IsLawful, Run.core_entries, SystemOf.system_of}
 use Rattle.cl_runs.proofs.ModelSystem.{cores_are}
 use Rattle.cl_sched.specs.CoreProgress.{IsReached}
 use Rattle.cl_sched.proofs.LawfulTables.{lawful_at}

@@ -3,9 +3,8 @@ use Rattle.std.proofs.lemmas.List.{length-map}
 use Rattle.cl_model.specs.declared.task.RunnableDef.{RunnableDef}
 use Rattle.cl_runs.specs.SystemOf.{range_of}
 use Rattle.cl_check.specs.Legality.{are_in_range}
-use Rattle.cl_check.proofs.TableFaults.{lengths_differ, fits_here, too_short, too_long}
+use Rattle.cl_check.proofs.{TableFaults.{lengths_differ, fits_here, too_short, too_long}, table_check.are_in_range.Goals.{then-time-runnable-via-then-time-runnable, then-time-runnable-via-else-time-runnable+then-time-runnable-2}}
 use Rattle.cl_check.proofs.table_check.are_in_range.Goals as goal
-use Rattle.cl_check.proofs.table_check.are_in_range.Goals.{then-time-runnable-via-then-time-runnable, then-time-runnable-via-else-time-runnable+then-time-runnable-2}
 
 pub returns-then-runnables-times : goal.returns-then-runnables-times
 returns-then-runnables-times c = lengths_differ (map range_of c.args.runnables.now) c.args.times.now

@@ -1,14 +1,8 @@
 use Rattle.std.proofs.Common.{◌≡◌, List, map, sym, ap, ◌∙◌, subst, arith}
-use Rattle.cl_model.specs.declared.stimulus.StimulusKind.{StimulusKind}
-use Rattle.cl_model.specs.declared.task.TaskDef.{TaskDef}
-use Rattle.cl_runs.specs.declared.job.Job.{Job}
-use Rattle.cl_runs.specs.Pattern.{IsPattern}
-use Rattle.cl_runs.specs.Table.{table_jobs}
-use Rattle.cl_runs.specs.SystemOf.{range_of, system_of}
-use Rattle.cl_runs.specs.TaskTiming.{TimeRange, Timing, timing_at}
+use Rattle.cl_model.specs.declared.{stimulus.StimulusKind.StimulusKind, task.TaskDef.TaskDef}
+use Rattle.cl_runs.specs.{declared.job.Job.Job, Pattern.IsPattern, Table.table_jobs, SystemOf.{range_of, system_of}, TaskTiming.{TimeRange, Timing, timing_at}}
 use Rattle.cl_runs.proofs.ModelSystem.{timing_is, count_is, ranges_are, system_sound}
-use Rattle.cl_check.specs.Legality.{task_faults}
-use Rattle.cl_check.specs.Inner.Finding.{Finds}
+use Rattle.cl_check.specs.{Legality.task_faults, Inner.Finding.Finds}
 use Rattle.cl_check.proofs.table_check.check_task.Goals as goal
 
 pub check_jobs-requires : goal.check_jobs-requires

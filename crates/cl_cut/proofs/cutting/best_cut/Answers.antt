@@ -1,8 +1,7 @@
 use Rattle.std.proofs.Common.{List, sym, ◌∙◌, subst}
 use Rattle.cl_model.specs.declared.group.Group.{Group}
 use Rattle.cl_runs.specs.SystemOf.{system_of}
-use Rattle.cl_cut.specs.Cuts.{IsBestCut}
-use Rattle.cl_cut.specs.Inner.Rears.{AreSettledGroups}
+use Rattle.cl_cut.specs.{Cuts.IsBestCut, Inner.Rears.AreSettledGroups}
 use Rattle.cl_cut.proofs.ChainValues.{best_safe, best_no_worse, chain_can_be_cut}
 use Rattle.cl_cut.proofs.cutting.best_cut.Goals as goal
 

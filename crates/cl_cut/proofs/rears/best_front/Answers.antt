@@ -1,10 +1,8 @@
 use Rattle.std.proofs.Common.{◌≡◌, ◌-◌, ◌<◌, length, ap, subst, arith}
 use Rattle.std.proofs.lemmas.List.{get_or_default}
-use Rattle.cl_cut.specs.declared.rears.Rear.{Rear}
-use Rattle.cl_cut.specs.Inner.Rears.{no_rear}
-use Rattle.cl_cut.proofs.RearFacts.{IsBestFront, front_alone, front_taken, front_kept, front_best}
+use Rattle.cl_cut.specs.{declared.rears.Rear.Rear, Inner.Rears.no_rear}
+use Rattle.cl_cut.proofs.{RearFacts.{IsBestFront, front_alone, front_taken, front_kept, front_best}, rears.best_front.Goals.{then-cost-best, else-cost-best}}
 use Rattle.cl_cut.proofs.rears.best_front.Goals as goal
-use Rattle.cl_cut.proofs.rears.best_front.Goals.{then-cost-best, else-cost-best}
 
 pub loop-size-init : goal.loop-size-init
 loop-size-init c =

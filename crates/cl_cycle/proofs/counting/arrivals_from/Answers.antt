@@ -2,8 +2,7 @@ use Rattle.std.proofs.Common.{◌≡◌, ◌+◌, ap, ◌∙◌, arith, w64}
 use Rattle.std.proofs.lemmas.Int.{to_z-of_z}
 use Rattle.cl_stim.specs.Phase.{since_turn}
 use Rattle.cl_cycle.specs.Counts.{arrivals_from}
-use Rattle.cl_cycle.proofs.CountedTicks.{few_in_width}
-use Rattle.cl_cycle.proofs.CountedTurns.{in_turns, counted}
+use Rattle.cl_cycle.proofs.{CountedTicks.few_in_width, CountedTurns.{in_turns, counted}}
 use Rattle.cl_cycle.proofs.counting.arrivals_from.Goals as goal
 
 -- the arrivals until the end of the window are those until its beginning and those in it

@@ -1,10 +1,8 @@
 use Rattle.std.proofs.Common.{◌≡◌, ℕ, ◌+◌, List, get_or, take, sym, ap, ◌∙◌, subst, take_all, arith}
-use Rattle.cl_model.specs.ByNumber.{tasks_of_core}
-use Rattle.cl_model.specs.declared.limits.TheConstants.{MOST_TICKS}
+use Rattle.cl_model.specs.{ByNumber.tasks_of_core, declared.limits.TheConstants.MOST_TICKS}
 use Rattle.cl_cycle.specs.Inner.Gathering.{tasks_beside, AreNoneBetween}
-use Rattle.cl_cycle.proofs.GatheredNumbers.{has_other_period, has_no_period, none_more}
+use Rattle.cl_cycle.proofs.{GatheredNumbers.{has_other_period, has_no_period, none_more}, cycle.next_period.Goals.{in-Some+then-phase-period, in-Some+else-phase-period, in_default}}
 use Rattle.cl_cycle.proofs.cycle.next_period.Goals as goal
-use Rattle.cl_cycle.proofs.cycle.next_period.Goals.{in-Some+then-phase-period, in-Some+else-phase-period, in_default}
 
 pub loop-other-preserved : goal.loop-other-preserved
 loop-other-preserved c =

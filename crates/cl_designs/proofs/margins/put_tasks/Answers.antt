@@ -1,7 +1,6 @@
 use Rattle.std.proofs.Common.{◌<◌, None, ◌++◌, length, ap, ◌∙◌, arith}
 use Rattle.cl_text.proofs.MoreLines.{line_more}
-use Rattle.cl_margin.specs.declared.answer.Margin.{Margin}
-use Rattle.cl_margin.specs.declared.whose.Whose.TheVariants.{OneTask}
+use Rattle.cl_margin.specs.declared.{answer.Margin.Margin, whose.Whose.TheVariants.OneTask}
 use Rattle.cl_designs.specs.Margins.{line_of, task_line}
 use Rattle.cl_designs.proofs.MarginLines.{break_is_known, margin_read, read_is_margin}
 use Rattle.cl_designs.proofs.margins.put_tasks.Goals as goal

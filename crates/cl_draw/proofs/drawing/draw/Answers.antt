@@ -1,5 +1,4 @@
-use Rattle.cl_draw.proofs.PictureFacts.{is_picture}
-use Rattle.cl_draw.proofs.PictureLength.{few_of_drawing}
+use Rattle.cl_draw.proofs.{PictureFacts.is_picture, PictureLength.few_of_drawing}
 use Rattle.cl_draw.proofs.drawing.draw.Goals as goal
 
 pub room_of-room-requires-clause-few : goal.room_of-room-requires-clause-few

@@ -1,9 +1,7 @@
 use Rattle.std.proofs.Common.{◌≡◌, ℕ, List, Option, get_or, sym, ap, ◌∙◌, arith}
 use Rattle.std.specs.Prelude.{unwrap_or, is_some, slice_get, Some}
 use Rattle.std.proofs.lemmas.List.{get_or_default}
-use Rattle.cl_runs.specs.declared.job.Job.{Job}
-use Rattle.cl_runs.specs.Table.{no_job, job_at}
-use Rattle.cl_runs.specs.Run.{jobs_of}
+use Rattle.cl_runs.specs.{declared.job.Job.Job, Table.{no_job, job_at}, Run.jobs_of}
 use Rattle.cl_model.specs.ByNumber.{deadline_of}
 use Rattle.cl_picture.specs.Bars.{counts}
 use Rattle.cl_draw.proofs.ItemFacts.{due_fits, band_same, begins_inside, passes}

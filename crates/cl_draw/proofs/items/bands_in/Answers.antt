@@ -4,8 +4,7 @@ use Rattle.std.specs.Option.{option_to_list}
 use Rattle.std.specs.List.{range_with_len}
 use Rattle.cl_model.specs.ByNumber.{deadline_of}
 use Rattle.cl_runs.specs.Run.{jobs_of}
-use Rattle.cl_picture.specs.declared.item.Item.{Item}
-use Rattle.cl_picture.specs.Bars.{counts}
+use Rattle.cl_picture.specs.{declared.item.Item.Item, Bars.counts}
 use Rattle.cl_draw.specs.Items.{band}
 use Rattle.cl_draw.proofs.Filtered.{kept_number}
 use Rattle.cl_draw.proofs.items.bands_in.Goals as goal

@@ -2,8 +2,7 @@ use Rattle.std.proofs.Common.{◌++◌, refl, ap, ◌∙◌, arith, Option}
 use Rattle.std.specs.Option.{option_to_list}
 use Rattle.cl_model.specs.ByNumber.{task_at, deadline_of}
 use Rattle.cl_runs.specs.Run.{jobs_of}
-use Rattle.cl_picture.specs.declared.item.Item.{Item}
-use Rattle.cl_picture.specs.Bars.{counts}
+use Rattle.cl_picture.specs.{declared.item.Item.Item, Bars.counts}
 use Rattle.cl_draw.specs.Items.{part_item}
 use Rattle.cl_draw.proofs.Filtered.{kept_item, kept_all}
 use Rattle.cl_draw.proofs.items.part_items.Goals as goal

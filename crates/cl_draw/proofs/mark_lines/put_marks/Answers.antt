@@ -2,9 +2,7 @@ use Rattle.std.proofs.Common.{ℕ, List, [], ◌∷◌, ◌++◌, ap, ◌∙◌}
 use Rattle.std.proofs.lemmas.Result.{IfOk-weaker}
 use Rattle.cl_picture.specs.Pieces.{print}
 use Rattle.cl_picture.proofs.Printing.{more_elements}
-use Rattle.cl_draw.specs.declared.marks.Arrival.{Arrival}
-use Rattle.cl_draw.specs.declared.spans.Span.{Span}
-use Rattle.cl_draw.specs.MarkLines.{waits_line, arrivals_line, dues_line, labels, mark_lines}
+use Rattle.cl_draw.specs.{declared.{marks.Arrival.Arrival, spans.Span.Span}, MarkLines.{waits_line, arrivals_line, dues_line, labels, mark_lines}}
 use Rattle.cl_draw.proofs.mark_lines.put_marks.Goals as goal
 
 pub returns : goal.returns

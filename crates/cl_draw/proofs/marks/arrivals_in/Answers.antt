@@ -2,8 +2,7 @@ use Rattle.std.proofs.Common.{◌++◌, map, ap, ◌∙◌, arith, Option}
 use Rattle.std.specs.Prelude.{filter}
 use Rattle.std.specs.Option.{option_to_list}
 use Rattle.std.specs.List.{range_with_len}
-use Rattle.cl_draw.specs.declared.marks.Arrival.{Arrival}
-use Rattle.cl_draw.specs.Marks.{is_seen, arrival_of}
+use Rattle.cl_draw.specs.{declared.marks.Arrival.Arrival, Marks.{is_seen, arrival_of}}
 use Rattle.cl_draw.proofs.Filtered.{kept_number}
 use Rattle.cl_draw.proofs.marks.arrivals_in.Goals as goal
 

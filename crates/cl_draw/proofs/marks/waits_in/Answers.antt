@@ -1,7 +1,6 @@
 use Rattle.std.proofs.Common.{◌++◌, ap, ◌∙◌, arith, Option}
 use Rattle.std.specs.Option.{option_to_list}
-use Rattle.cl_draw.specs.declared.spans.Span.{Span}
-use Rattle.cl_draw.specs.Marks.{is_wait, wait_of}
+use Rattle.cl_draw.specs.{declared.spans.Span.Span, Marks.{is_wait, wait_of}}
 use Rattle.cl_draw.proofs.Filtered.{kept_item, kept_all}
 use Rattle.cl_draw.proofs.marks.waits_in.Goals as goal
 

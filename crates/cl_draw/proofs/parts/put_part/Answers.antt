@@ -1,8 +1,7 @@
 use Rattle.std.proofs.Common.{◌≡◌, ℕ, ◌+◌, ◌-◌, arith, subst}
 use Rattle.cl_runs.specs.SystemOf.{system_of}
 use Rattle.cl_draw.specs.Inner.Cursors.{StandsAt}
-use Rattle.cl_draw.proofs.CursorFacts.{ranges_are, going_where_it_runs, runs_over}
-use Rattle.cl_draw.proofs.PartFacts.{end_of_part, further_by}
+use Rattle.cl_draw.proofs.{CursorFacts.{ranges_are, going_where_it_runs, runs_over}, PartFacts.{end_of_part, further_by}}
 use Rattle.cl_draw.proofs.parts.put_part.Goals as goal
 
 pub due_of-requires-clause-in_table : goal.due_of-requires-clause-in_table

@@ -1,6 +1,5 @@
 use Rattle.std.proofs.Common.{refl, arith}
-use Rattle.cl_draw.proofs.PartFacts.{all_parts, all_finishes}
-use Rattle.cl_draw.proofs.WorkFacts.{walk_begins, at_span, cut_at_span, span_some, span_within, span_runs, walk_on, walk_ends}
+use Rattle.cl_draw.proofs.{PartFacts.{all_parts, all_finishes}, WorkFacts.{walk_begins, at_span, cut_at_span, span_some, span_within, span_runs, walk_on, walk_ends}}
 use Rattle.cl_draw.proofs.parts.work_of.Goals as goal
 
 pub loop-span-init : goal.loop-span-init

@@ -2,8 +2,7 @@ use Rattle.std.proofs.Common.{List, map, ◌++◌, ap, ◌∙◌}
 use Rattle.std.proofs.lemmas.Result.{IfOk-weaker}
 use Rattle.cl_picture.specs.Pieces.{print}
 use Rattle.cl_picture.proofs.Printing.{more_elements}
-use Rattle.cl_draw.specs.declared.stops.Stop.{Stop}
-use Rattle.cl_draw.specs.ChainLines.{frame_line, inside_lines}
+use Rattle.cl_draw.specs.{declared.stops.Stop.Stop, ChainLines.{frame_line, inside_lines}}
 use Rattle.cl_draw.proofs.reaction_lines.put_inside.Goals as goal
 
 pub returns : goal.returns

@@ -3,8 +3,7 @@ use Rattle.std.specs.List.{flat_map}
 use Rattle.std.proofs.lemmas.Result.{IfOk-weaker}
 use Rattle.cl_picture.specs.Pieces.{spelled}
 use Rattle.cl_picture.proofs.Printing.{more_pieces, line_behind}
-use Rattle.cl_draw.specs.declared.stops.Stop.{Stop}
-use Rattle.cl_draw.specs.ChainLines.{stop_pieces}
+use Rattle.cl_draw.specs.{declared.stops.Stop.Stop, ChainLines.stop_pieces}
 use Rattle.cl_draw.proofs.reaction_lines.put_title.Goals as goal
 
 pub returns : goal.returns

@@ -1,8 +1,7 @@
 use Rattle.std.proofs.Common.{◌-◌, ◌++◌, List, length, ap, ◌∙◌, arith}
 use Rattle.std.proofs.lemmas.Result.{IfOk-weaker}
 use Rattle.cl_picture.specs.Pieces.{spelled}
-use Rattle.cl_draw.specs.declared.stops.Stop.{Stop}
-use Rattle.cl_draw.specs.ChainLines.{step_pieces_at}
+use Rattle.cl_draw.specs.{declared.stops.Stop.Stop, ChainLines.step_pieces_at}
 use Rattle.cl_picture.proofs.Printing.{no_pieces, more_pieces, line_behind, numbered_pieces, all_numbered_pieces}
 use Rattle.cl_draw.proofs.reaction_steps.put_steps.Goals as goal
 

@@ -2,8 +2,7 @@ use Rattle.std.proofs.Common.{[], ◌∷◌, ◌++◌, ap, ◌∙◌}
 use Rattle.std.proofs.lemmas.Result.{IfOk-weaker}
 use Rattle.cl_picture.specs.Pieces.{print}
 use Rattle.cl_picture.proofs.Printing.{line_behind}
-use Rattle.cl_draw.specs.declared.stops.Stop.{Stop}
-use Rattle.cl_draw.specs.ChainLines.{first_stop, words_rest}
+use Rattle.cl_draw.specs.{declared.stops.Stop.Stop, ChainLines.{first_stop, words_rest}}
 use Rattle.cl_draw.proofs.reaction_words.put_words.Goals as goal
 
 pub returns : goal.returns

@@ -1,8 +1,7 @@
 use Rattle.std.proofs.Common.{◌≡◌, ◌+◌, Bool, true, false, nat_le, ◌++◌, sym, subst, arith, if◌then◌else◌}
 use Rattle.std.specs.Prelude.{OnOk}
 use Rattle.std.proofs.lemmas.Bool.{le-leb, lt-leb}
-use Rattle.cl_picture.specs.Window.{x_of}
-use Rattle.cl_picture.specs.Pieces.{spelled}
+use Rattle.cl_picture.specs.{Window.x_of, Pieces.spelled}
 use Rattle.cl_draw.specs.ChainLines.{words_left, words_right}
 use Rattle.cl_draw.proofs.reaction_words.put_words_place.Goals as goal
 

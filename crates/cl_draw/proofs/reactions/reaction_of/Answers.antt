@@ -1,13 +1,10 @@
 use Rattle.std.proofs.Common.{arith}
 use Rattle.std.specs.Prelude.{slice_index}
 use Rattle.cl_model.specs.Groups.{group_at, groups_at}
-use Rattle.cl_runs.specs.RunChains.{run_moments}
-use Rattle.cl_runs.specs.SystemOf.{system_of}
+use Rattle.cl_runs.specs.{RunChains.run_moments, SystemOf.system_of}
 use Rattle.cl_chain.specs.JobChains.{job_chain_of}
-use Rattle.cl_draw.specs.declared.stops.Stop.{Stop}
-use Rattle.cl_draw.specs.Reactions.{IsStop, no_stop}
-use Rattle.cl_draw.proofs.FirstItems.{one_more_first}
-use Rattle.cl_draw.proofs.ReactionFacts.{written_here, stop_here}
+use Rattle.cl_draw.specs.{declared.stops.Stop.Stop, Reactions.{IsStop, no_stop}}
+use Rattle.cl_draw.proofs.{FirstItems.one_more_first, ReactionFacts.{written_here, stop_here}}
 use Rattle.cl_draw.proofs.reactions.reaction_of.Goals as goal
 
 pub stop_of-requires-clause-writes : goal.stop_of-requires-clause-writes

@@ -1,6 +1,5 @@
 use Rattle.cl_model.specs.Groups.{groups_at}
-use Rattle.cl_runs.specs.RunChains.{run_moments}
-use Rattle.cl_runs.specs.SystemOf.{system_of}
+use Rattle.cl_runs.specs.{RunChains.run_moments, SystemOf.system_of}
 use Rattle.cl_draw.proofs.ReactionFacts.{AreStopsBelow}
 use Rattle.cl_draw.proofs.reactions.reaction_of.Given as goal
 

@@ -1,14 +1,10 @@
 use Rattle.std.proofs.Common.{List, map, ◌++◌, ap, ◌∙◌}
 use Rattle.std.specs.Prelude.{codes}
 use Rattle.std.proofs.lemmas.Result.{IfOk-weaker}
-use Rattle.cl_model.specs.declared.task.TaskDef.{TaskDef}
-use Rattle.cl_model.specs.ByNumber.{task_at}
-use Rattle.cl_picture.specs.declared.item.Bar.{Bar}
-use Rattle.cl_picture.specs.Pieces.{print}
+use Rattle.cl_model.specs.{declared.task.TaskDef.TaskDef, ByNumber.task_at}
+use Rattle.cl_picture.specs.{declared.item.Bar.Bar, Pieces.print}
 use Rattle.cl_picture.proofs.Printing.{more_elements}
-use Rattle.cl_draw.specs.declared.marks.Marks.{Marks}
-use Rattle.cl_draw.specs.MarkLines.{mark_lines}
-use Rattle.cl_draw.specs.RowLines.{bar_line, row_lines}
+use Rattle.cl_draw.specs.{declared.marks.Marks.Marks, MarkLines.mark_lines, RowLines.{bar_line, row_lines}}
 use Rattle.cl_draw.proofs.row_lines.put_row.Goals as goal
 
 pub returns : goal.returns

@@ -1,7 +1,6 @@
 use Rattle.std.specs.Prelude.{All}
 use Rattle.std.proofs.Common.{List, sym, subst}
-use Rattle.cl_draw.specs.declared.parts.Part.{Part}
-use Rattle.cl_draw.specs.Inner.TaskRuns.{IsPartOf}
+use Rattle.cl_draw.specs.{declared.parts.Part.Part, Inner.TaskRuns.IsPartOf}
 use Rattle.cl_draw.proofs.PartFacts.{parts_known}
 use Rattle.cl_draw.proofs.rows.row_of.Goals as goal
 

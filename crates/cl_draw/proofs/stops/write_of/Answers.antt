@@ -1,11 +1,7 @@
 use Rattle.std.proofs.Common.{sym, ap, subst, ◌∙◌, arith}
 use Rattle.std.proofs.lemmas.Result.{IfOk-weaker}
 use Rattle.cl_model.specs.declared.task.AccessKind.TheVariants.{Explicit, Implicit, Timed}
-use Rattle.cl_runs.specs.declared.job.Job.{Job}
-use Rattle.cl_runs.specs.declared.job.JobTable.{JobTable}
-use Rattle.cl_runs.specs.Table.{table_jobs}
-use Rattle.cl_runs.specs.SystemOf.{system_of}
-use Rattle.cl_runs.specs.Moments.{Finishes, WritesAtDeadline, Writes}
+use Rattle.cl_runs.specs.{declared.job.{Job.Job, JobTable.JobTable}, Table.table_jobs, SystemOf.system_of, Moments.{Finishes, WritesAtDeadline, Writes}}
 use Rattle.cl_draw.proofs.StopFacts.{job_found, write_by, writes_by, last_place, write_at_deadline}
 use Rattle.cl_draw.proofs.stops.write_of.Goals as goal
 

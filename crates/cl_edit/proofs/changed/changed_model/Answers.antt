@@ -1,10 +1,7 @@
 use Rattle.std.proofs.Common.{◌≡◌, sym, ap, ◌∙◌, subst}
-use Rattle.cl_model.specs.declared.model.SystemModel.{SystemModel}
-use Rattle.cl_model.specs.Ranges.{IsInRange}
-use Rattle.cl_edit.specs.Changing.{with_change, IsChangeOf}
-use Rattle.cl_edit.specs.Edited.{with_edit}
-use Rattle.cl_edit.proofs.RangeFacts.{edits_keep_range}
-use Rattle.cl_edit.proofs.ResolvedEdits.{known_change}
+use Rattle.cl_model.specs.{declared.model.SystemModel.SystemModel, Ranges.IsInRange}
+use Rattle.cl_edit.specs.{Changing.{with_change, IsChangeOf}, Edited.with_edit}
+use Rattle.cl_edit.proofs.{RangeFacts.edits_keep_range, ResolvedEdits.known_change}
 use Rattle.cl_edit.proofs.changed.changed_model.Goals as goal
 
 -- what the change names is there, in the copy too

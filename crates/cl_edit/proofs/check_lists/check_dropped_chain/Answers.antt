@@ -1,10 +1,7 @@
 use Rattle.std.proofs.Common.{sym, ap, ◌∙◌}
-use Rattle.cl_model.specs.declared.chain.ChainDef.{ChainDef}
-use Rattle.cl_model.specs.declared.model.SystemModel.{SystemModel}
-use Rattle.cl_model.specs.Refusals.{each}
+use Rattle.cl_model.specs.{declared.{chain.ChainDef.ChainDef, model.SystemModel.SystemModel}, Refusals.each}
 use Rattle.cl_edit.specs.FewListChecks.{kept_chain_check}
-use Rattle.cl_edit.proofs.ChainChanges.{dropped_chain_refused}
-use Rattle.cl_edit.proofs.FewAnswers.{passes_as}
+use Rattle.cl_edit.proofs.{ChainChanges.dropped_chain_refused, FewAnswers.passes_as}
 use Rattle.cl_edit.proofs.check_lists.check_dropped_chain.Goals as goal
 
 pub returns : goal.returns

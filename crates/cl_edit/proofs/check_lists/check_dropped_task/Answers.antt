@@ -1,10 +1,7 @@
 use Rattle.std.proofs.Common.{sym, ap, ◌∙◌}
-use Rattle.cl_model.specs.declared.model.SystemModel.{SystemModel}
-use Rattle.cl_model.specs.ByNumber.{task_at}
-use Rattle.cl_model.specs.Refusals.{each}
+use Rattle.cl_model.specs.{declared.model.SystemModel.SystemModel, ByNumber.task_at, Refusals.each}
 use Rattle.cl_edit.specs.FewListChecks.{kept_steps_check}
-use Rattle.cl_edit.proofs.FewAnswers.{passes_as}
-use Rattle.cl_edit.proofs.TaskRemoval.{dropped_task_refused}
+use Rattle.cl_edit.proofs.{FewAnswers.passes_as, TaskRemoval.dropped_task_refused}
 use Rattle.cl_edit.proofs.check_lists.check_dropped_task.Goals as goal
 
 pub returns : goal.returns

@@ -1,6 +1,5 @@
 use Rattle.std.proofs.Common.{◌≡◌, drop}
-use Rattle.cl_model.specs.Refusals.{each, each_from}
-use Rattle.cl_model.specs.Validity.{hop_check}
+use Rattle.cl_model.specs.{Refusals.{each, each_from}, Validity.hop_check}
 use Rattle.cl_edit.proofs.check_lists.check_hops.Given as goal
 
 -- what is refused in all is what is refused in the rest

@@ -1,13 +1,9 @@
 use Rattle.std.proofs.Common.{refl, sym, ap, ◌∙◌, ◌==◌}
 use Rattle.std.specs.List.{list_any}
 use Rattle.std.proofs.lemmas.Option.{slice_get_within, get_or_from_slice_get}
-use Rattle.cl_model.specs.declared.chain.ChainDef.{ChainDef}
-use Rattle.cl_model.specs.declared.group.Group.{Group}
+use Rattle.cl_model.specs.{declared.{chain.ChainDef.ChainDef, group.Group.Group}, ByNumber.no_chain, Groups.groups_of, Place.{entry_of, at_key}}
 use Rattle.cl_model.specs.declared.place.Part.TheVariants as part
 use Rattle.cl_model.specs.declared.place.Key.TheVariants as key
-use Rattle.cl_model.specs.ByNumber.{no_chain}
-use Rattle.cl_model.specs.Groups.{groups_of}
-use Rattle.cl_model.specs.Place.{entry_of, at_key}
 use Rattle.cl_edit.proofs.GroupTasks.{none_of_task}
 use Rattle.cl_edit.proofs.check_lists.check_kept_chain.Goals as goal
 

@@ -1,6 +1,5 @@
 use Rattle.std.proofs.Common.{◌≡◌, drop}
-use Rattle.cl_model.specs.ByNumber.{task_at}
-use Rattle.cl_model.specs.Refusals.{each, each_from}
+use Rattle.cl_model.specs.{ByNumber.task_at, Refusals.{each, each_from}}
 use Rattle.cl_edit.specs.FewListChecks.{kept_steps_check}
 use Rattle.cl_edit.proofs.check_lists.check_kept_chains.Given as goal
 

@@ -1,8 +1,6 @@
 use Rattle.std.proofs.Common.{sym, ap, ◌∙◌}
 use Rattle.std.specs.List.{list_any}
-use Rattle.cl_model.specs.declared.refusal.Code.TheVariants.{M44}
-use Rattle.cl_model.specs.declared.task.RunnableDef.{RunnableDef}
-use Rattle.cl_model.specs.Named.{same_name}
+use Rattle.cl_model.specs.{declared.{refusal.Code.TheVariants.M44, task.RunnableDef.RunnableDef}, Named.same_name}
 use Rattle.cl_model.proofs.ListFacts.{list_any-map}
 use Rattle.cl_edit.proofs.ListAnswers.{answers_when}
 use Rattle.cl_edit.proofs.check_lists.check_kept_step.Goals as goal

@@ -1,5 +1,4 @@
-use Rattle.cl_edit.proofs.ChainChanges.{new_chain_refused}
-use Rattle.cl_edit.proofs.FewAnswers.{passes_as}
+use Rattle.cl_edit.proofs.{ChainChanges.new_chain_refused, FewAnswers.passes_as}
 use Rattle.cl_edit.proofs.check_lists.check_new_chain.Goals as goal
 
 pub returns : goal.returns

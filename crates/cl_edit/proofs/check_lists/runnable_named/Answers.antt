@@ -1,6 +1,5 @@
 use Rattle.std.proofs.Common.{◌<◌, List, length, sym, ap, ◌∙◌, subst}
-use Rattle.cl_model.specs.declared.task.RunnableDef.{RunnableDef}
-use Rattle.cl_model.specs.declared.task.TaskDef.{TaskDef}
+use Rattle.cl_model.specs.declared.task.{RunnableDef.RunnableDef, TaskDef.TaskDef}
 use Rattle.cl_edit.proofs.KnownSteps.{unknown_runnable, runnable_is}
 use Rattle.cl_edit.proofs.check_lists.runnable_named.Goals as goal
 

@@ -1,8 +1,5 @@
 use Rattle.std.proofs.Common.{ap, ◌∙◌}
-use Rattle.cl_model.specs.declared.model_fault.ModelFault.TheVariants.{Refused}
-use Rattle.cl_model.specs.declared.place.Place.{Place}
-use Rattle.cl_model.specs.declared.refusal.Code.TheVariants.{M29}
-use Rattle.cl_model.specs.declared.refusal.Refusal.{Refusal}
+use Rattle.cl_model.specs.declared.{model_fault.ModelFault.TheVariants.Refused, place.Place.Place, refusal.{Code.TheVariants.M29, Refusal.Refusal}}
 use Rattle.cl_edit.proofs.MovedTasks.{move_passes, move_nowhere}
 use Rattle.cl_edit.proofs.check_move.check_move.Goals as goal
 

@@ -1,8 +1,6 @@
-use Rattle.cl_edit.specs.declared.pace.Retiming.{Retiming}
+use Rattle.cl_edit.specs.{declared.pace.Retiming.Retiming, Inner.Paces.with_retiming}
 use Rattle.cl_edit.specs.declared.pace.Retiming.TheVariants as change
-use Rattle.cl_edit.specs.Inner.Paces.{with_retiming}
-use Rattle.cl_edit.proofs.PlaceChecks.{first_place}
-use Rattle.cl_edit.proofs.RetimedTasks.{change_known}
+use Rattle.cl_edit.proofs.{PlaceChecks.first_place, RetimedTasks.change_known}
 use Rattle.cl_edit.proofs.check_move.check_places.Goals as goal
 
 pub returns : goal.returns

@@ -1,8 +1,7 @@
 use Rattle.std.proofs.Common.{◌≡◌, ℕ, ◌-◌, List, length, get_or, inl, inr, sym, ap, ◌∙◌, subst, arith}
 use Rattle.std.specs.Prelude.{Some, unwrap_or}
 use Rattle.std.proofs.lemmas.Option.{slice_get-get_or}
-use Rattle.cl_edit.specs.Inner.Paces.{with_retiming}
-use Rattle.cl_edit.specs.Inner.Places.{IsFirstBeyond}
+use Rattle.cl_edit.specs.Inner.{Paces.with_retiming, Places.IsFirstBeyond}
 use Rattle.cl_edit.specs.declared.pace.Retiming.TheVariants as change
 use Rattle.cl_edit.proofs.FullCores.{none_beyond, last_beyond, last_of, count_all}
 use Rattle.cl_edit.proofs.check_move.first_beyond.Goals as goal

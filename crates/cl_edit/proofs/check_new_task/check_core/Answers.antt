@@ -1,7 +1,5 @@
 use Rattle.std.proofs.Common.{sym, ◌∙◌}
-use Rattle.cl_model.specs.declared.model.CoreDef.{CoreDef}
-use Rattle.cl_model.specs.declared.refusal.Code.TheVariants.{M29}
-use Rattle.cl_model.specs.Named.{same_name}
+use Rattle.cl_model.specs.{declared.{model.CoreDef.CoreDef, refusal.Code.TheVariants.M29}, Named.same_name}
 use Rattle.cl_model.proofs.ListFacts.{list_any-map}
 use Rattle.cl_edit.proofs.ListAnswers.{answers_unless}
 use Rattle.cl_edit.proofs.check_new_task.check_core.Goals as goal

@@ -1,12 +1,7 @@
 use Rattle.std.proofs.Common.{subst, ap, ◌∙◌}
-use Rattle.cl_model.specs.declared.place.Place.{Place}
+use Rattle.cl_model.specs.{declared.{place.Place.Place, refusal.Code.TheVariants.M24}, Answers.Answers, Named.runnable_names, Place.{entry_of, at_key, at_sub}, ValidNames.repeats}
 use Rattle.cl_model.specs.declared.place.Part.TheVariants as part
 use Rattle.cl_model.specs.declared.place.Key.TheVariants as key
-use Rattle.cl_model.specs.declared.refusal.Code.TheVariants.{M24}
-use Rattle.cl_model.specs.Answers.{Answers}
-use Rattle.cl_model.specs.Named.{runnable_names}
-use Rattle.cl_model.specs.Place.{entry_of, at_key, at_sub}
-use Rattle.cl_model.specs.ValidNames.{repeats}
 use Rattle.cl_edit.specs.Edited.{all_names}
 use Rattle.cl_edit.proofs.check_new_task.check_new_runnables.Goals as goal
 

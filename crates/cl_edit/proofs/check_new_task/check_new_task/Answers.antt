@@ -1,8 +1,6 @@
 use Rattle.std.proofs.Common.{sym, ap, ◌∙◌}
 use Rattle.cl_model.specs.declared.model.SystemModel.{SystemModel}
-use Rattle.cl_edit.proofs.FewAnswers.{passes_as}
-use Rattle.cl_edit.proofs.NewTaskChecks.{few_counted, all_is}
-use Rattle.cl_edit.proofs.TaskAdded.{new_task_refused}
+use Rattle.cl_edit.proofs.{FewAnswers.passes_as, NewTaskChecks.{few_counted, all_is}, TaskAdded.new_task_refused}
 use Rattle.cl_edit.proofs.check_new_task.check_new_task.Goals as goal
 
 pub check_all-requires-clause-runnables : goal.check_all-requires-clause-runnables

@@ -1,10 +1,7 @@
 use Rattle.std.proofs.Common.{sym, ◌∙◌}
 use Rattle.std.specs.Prelude.{◌==◌}
-use Rattle.cl_model.specs.declared.refusal.Code.TheVariants.{M31}
-use Rattle.cl_model.specs.declared.task.TaskDef.{TaskDef}
-use Rattle.cl_model.specs.Named.{same_name}
-use Rattle.cl_edit.proofs.ListAnswers.{answers_when}
-use Rattle.cl_edit.proofs.TaskLists.{list_any-filter}
+use Rattle.cl_model.specs.{declared.{refusal.Code.TheVariants.M31, task.TaskDef.TaskDef}, Named.same_name}
+use Rattle.cl_edit.proofs.{ListAnswers.answers_when, TaskLists.list_any-filter}
 use Rattle.cl_edit.proofs.check_new_task.check_priority.Goals as goal
 
 pub returns : goal.returns

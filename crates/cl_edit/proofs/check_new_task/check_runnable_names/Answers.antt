@@ -2,9 +2,7 @@ use Rattle.std.proofs.Common.{[], ◌∷◌, ◌++◌, refl, sym, ap, ◌∙◌,
 use Rattle.std.proofs.lemmas.List.{append-nil}
 use Rattle.std.proofs.lemmas.Result.{err_from_is_err_and}
 use Rattle.cl_model.specs.declared.place.Key.TheVariants as key
-use Rattle.cl_model.specs.declared.refusal.Code.TheVariants.{M24}
-use Rattle.cl_model.specs.Named.{runnable_names}
-use Rattle.cl_model.specs.Place.{at_key, at_sub}
+use Rattle.cl_model.specs.{declared.refusal.Code.TheVariants.M24, Named.runnable_names, Place.{at_key, at_sub}}
 use Rattle.cl_valid.proofs.AddedNames.{name_at, name_below, name_past, none_added, one_added, one_refused, all_pass}
 use Rattle.cl_edit.specs.Edited.{all_names}
 use Rattle.cl_edit.proofs.check_new_task.check_runnable_names.Goals as goal

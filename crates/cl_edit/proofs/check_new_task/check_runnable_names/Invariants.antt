@@ -1,8 +1,6 @@
 use Rattle.std.proofs.Common.{◌++◌}
 use Rattle.cl_model.specs.declared.place.Key.TheVariants as key
-use Rattle.cl_model.specs.declared.refusal.Code.TheVariants.{M24}
-use Rattle.cl_model.specs.Named.{runnable_names}
-use Rattle.cl_model.specs.Place.{at_key, at_sub}
+use Rattle.cl_model.specs.{declared.refusal.Code.TheVariants.M24, Named.runnable_names, Place.{at_key, at_sub}}
 use Rattle.cl_valid.proofs.AddedNames.{AreAdded}
 use Rattle.cl_edit.specs.Edited.{all_names}
 use Rattle.cl_edit.proofs.check_new_task.check_runnable_names.Given as goal

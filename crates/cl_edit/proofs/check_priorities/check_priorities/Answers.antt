@@ -1,6 +1,5 @@
 use Rattle.std.proofs.Common.{subst, sym, ◌∙◌, List}
-use Rattle.cl_model.specs.Answers.{Passes}
-use Rattle.cl_model.specs.declared.refusal.Refusal.{Refusal}
+use Rattle.cl_model.specs.{Answers.Passes, declared.refusal.Refusal.Refusal}
 use Rattle.cl_edit.proofs.PlaceLaws.{priorities_need_few}
 use Rattle.cl_edit.proofs.check_priorities.check_priorities.Goals as goal
 

@@ -1,7 +1,6 @@
 use Rattle.std.proofs.Common.{ap, sym, ◌∙◌}
 use Rattle.cl_model.specs.Validity.{requirement_check}
-use Rattle.cl_edit.proofs.FewAnswers.{passes_as}
-use Rattle.cl_edit.proofs.RequirementLaws.{requirement_added}
+use Rattle.cl_edit.proofs.{FewAnswers.passes_as, RequirementLaws.requirement_added}
 use Rattle.cl_edit.proofs.check_requirements.check_new_requirement.Goals as goal
 
 pub returns : goal.returns

@@ -1,5 +1,4 @@
-use Rattle.cl_edit.proofs.FewAnswers.{passes_as}
-use Rattle.cl_edit.proofs.RequirementLaws.{requirement_set}
+use Rattle.cl_edit.proofs.{FewAnswers.passes_as, RequirementLaws.requirement_set}
 use Rattle.cl_edit.proofs.check_requirements.check_requirement.Goals as goal
 
 pub returns : goal.returns

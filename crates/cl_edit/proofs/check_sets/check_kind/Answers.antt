@@ -1,6 +1,5 @@
 use Rattle.std.proofs.Common.{List, sym, subst}
-use Rattle.cl_model.specs.declared.refusal.Refusal.{Refusal}
-use Rattle.cl_model.specs.Answers.{Passes}
+use Rattle.cl_model.specs.{declared.refusal.Refusal.Refusal, Answers.Passes}
 use Rattle.cl_edit.proofs.LimitChecks.{kind_left}
 use Rattle.cl_edit.proofs.check_sets.check_kind.Goals as goal
 

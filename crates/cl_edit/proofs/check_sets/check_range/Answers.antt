@@ -1,5 +1,4 @@
-use Rattle.cl_edit.proofs.FewAnswers.{passes_as}
-use Rattle.cl_edit.proofs.TaskSetters.{range_needs_few}
+use Rattle.cl_edit.proofs.{FewAnswers.passes_as, TaskSetters.range_needs_few}
 use Rattle.cl_edit.proofs.check_sets.check_range.Goals as goal
 
 -- M36 is left to check

@@ -1,9 +1,7 @@
 use Rattle.std.proofs.Common.{◌≡◌, ◌≢◌, [], ◌∷◌, sym, ◌∙◌, arith}
 use Rattle.std.proofs.lemmas.Bool.Decides.{nat_tests}
-use Rattle.cl_edit.specs.Inner.Parts.{parts}
-use Rattle.cl_edit.specs.Inner.LineReads.{edit_in}
-use Rattle.cl_edit.proofs.KeywordFacts.{no_word_read, words_left, no_word_left, unread_line}
-use Rattle.cl_edit.proofs.Unreads.{kept_unread}
+use Rattle.cl_edit.specs.Inner.{Parts.parts, LineReads.edit_in}
+use Rattle.cl_edit.proofs.{KeywordFacts.{no_word_read, words_left, no_word_left, unread_line}, Unreads.kept_unread}
 use Rattle.cl_edit.proofs.lines.edit_of.Goals as goal
 
 pub returns-in_default : goal.returns-in_default

@@ -1,8 +1,7 @@
 use Rattle.std.proofs.Common.{sym, ap, ◌∙◌}
 use Rattle.std.specs.Prelude.{codes}
 use Rattle.cl_edit.specs.Inner.LineReads.{later_fields_in}
-use Rattle.cl_edit.proofs.FieldFacts.{of_word}
-use Rattle.cl_edit.proofs.KeywordFacts.{other_later_keyword}
+use Rattle.cl_edit.proofs.{FieldFacts.of_word, KeywordFacts.other_later_keyword}
 use Rattle.cl_edit.proofs.lines.later_fields.Goals as goal
 
 pub returns-then-is_word : goal.returns-then-is_word

@@ -1,8 +1,7 @@
 use Rattle.std.proofs.Common.{sym, ap, ◌∙◌}
 use Rattle.std.specs.Prelude.{Ok}
 use Rattle.std.proofs.lemmas.Result.{err_from_is_err_and}
-use Rattle.cl_edit.specs.Changing.{with_change}
-use Rattle.cl_edit.specs.Edited.{with_edit}
+use Rattle.cl_edit.specs.{Changing.with_change, Edited.with_edit}
 use Rattle.cl_edit.proofs.CheckedEdits.{gives_where_fault, made_where_passes}
 use Rattle.cl_edit.proofs.make.edit_valid.Goals as goal
 

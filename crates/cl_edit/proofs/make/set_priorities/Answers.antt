@@ -1,8 +1,6 @@
 use Rattle.std.proofs.Common.{◌<◌, List, length, sym, subst}
 use Rattle.std.specs.Prelude.{All}
-use Rattle.cl_model.specs.declared.changes.TaskPriority.{TaskPriority}
-use Rattle.cl_model.specs.Changes.{with_priorities}
-use Rattle.cl_model.specs.Validity.{IsValid}
+use Rattle.cl_model.specs.{declared.changes.TaskPriority.TaskPriority, Changes.with_priorities, Validity.IsValid}
 use Rattle.cl_edit.proofs.make.set_priorities.Goals as goal
 
 -- the tasks that get priorities are there

@@ -1,7 +1,5 @@
 use Rattle.std.proofs.Common.{sym, ap, ◌∙◌, subst}
-use Rattle.cl_model.specs.declared.chain.RequirementDef.{RequirementDef}
-use Rattle.cl_model.specs.Changes.{with_requirement}
-use Rattle.cl_model.specs.Validity.{IsValid}
+use Rattle.cl_model.specs.{declared.chain.RequirementDef.RequirementDef, Changes.with_requirement, Validity.IsValid}
 use Rattle.cl_edit.proofs.make.set_requirement.Goals as goal
 
 pub with_requirement-requires-clause-number : goal.with_requirement-requires-clause-number

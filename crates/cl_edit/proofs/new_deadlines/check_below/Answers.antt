@@ -2,8 +2,7 @@ use Rattle.std.proofs.Common.{◌∙◌}
 use Rattle.std.specs.Prelude.{Some}
 use Rattle.std.proofs.lemmas.Option.{slice_get_within}
 use Rattle.cl_model.specs.declared.refusal.Code.TheVariants.{M42}
-use Rattle.cl_edit.proofs.ListAnswers.{answers_when}
-use Rattle.cl_edit.proofs.NewTaskChecks.{outpaced_is, kind_is}
+use Rattle.cl_edit.proofs.{ListAnswers.answers_when, NewTaskChecks.{outpaced_is, kind_is}}
 use Rattle.cl_edit.proofs.new_deadlines.check_below.Goals as goal
 
 pub stimulus_of-requires : goal.stimulus_of-requires

@@ -1,6 +1,5 @@
 use Rattle.std.proofs.Common.{List, subst}
-use Rattle.cl_model.specs.declared.refusal.Refusal.{Refusal}
-use Rattle.cl_model.specs.Answers.{Answers}
+use Rattle.cl_model.specs.{declared.refusal.Refusal.Refusal, Answers.Answers}
 use Rattle.cl_edit.proofs.NewTaskChecks.{deadline_asked}
 use Rattle.cl_edit.proofs.new_deadlines.check_deadline.Goals as goal
 

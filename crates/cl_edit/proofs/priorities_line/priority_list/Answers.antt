@@ -1,12 +1,9 @@
 use Rattle.std.proofs.Common.{◌≡◌, ◌≢◌, false, [], ◌∷◌, length-append, sym, ap, ◌∙◌, arith}
 use Rattle.std.proofs.lemmas.Bool.{not-true, not-false}
 use Rattle.std.proofs.lemmas.Bool.Decides.{nat_tests}
-use Rattle.cl_model.specs.declared.limits.TheConstants.{MOST_TASKS}
-use Rattle.cl_model.specs.Named.{has_name}
+use Rattle.cl_model.specs.{declared.limits.TheConstants.MOST_TASKS, Named.has_name}
 use Rattle.cl_edit.specs.Inner.LineReads.{new_priority_in, priority_list_in}
-use Rattle.cl_edit.proofs.Unreads.{kept_unread}
-use Rattle.cl_edit.proofs.WordLists.{all_read, too_many_left, unread_next, bad_next, one_more_read}
-use Rattle.cl_edit.proofs.LaterLines.{unread_priority, twice, new_one, named_more}
+use Rattle.cl_edit.proofs.{Unreads.kept_unread, WordLists.{all_read, too_many_left, unread_next, bad_next, one_more_read}, LaterLines.{unread_priority, twice, new_one, named_more}}
 use Rattle.cl_edit.proofs.priorities_line.priority_list.Goals as goal
 
 pub returns-then-len-eq-MOST_TASKS-clause-read : goal.returns-then-len-eq-MOST_TASKS-clause-read

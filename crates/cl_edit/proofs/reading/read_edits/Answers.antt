@@ -1,8 +1,7 @@
 use Rattle.std.proofs.Common.{◌≡◌, [], ◌++◌, ap, subst, ◌∙◌}
 use Rattle.std.specs.Prelude.{Err}
 use Rattle.std.proofs.lemmas.List.{append-nil}
-use Rattle.cl_edit.specs.Listed.{GivesNext}
-use Rattle.cl_edit.specs.Reading.{AreEditsOf}
+use Rattle.cl_edit.specs.{Listed.GivesNext, Reading.AreEditsOf}
 use Rattle.cl_edit.proofs.OneAnswer.{edits_unique, only_fault}
 use Rattle.cl_edit.proofs.reading.read_edits.Goals as goal
 

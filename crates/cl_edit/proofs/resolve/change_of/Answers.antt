@@ -1,6 +1,4 @@
-use Rattle.cl_edit.specs.declared.edit.Edit.TheVariants.{Swap}
-use Rattle.cl_edit.specs.Changing.{change_of}
-use Rattle.cl_edit.specs.Edited.{edit_checks}
+use Rattle.cl_edit.specs.{declared.edit.Edit.TheVariants.Swap, Changing.change_of, Edited.edit_checks}
 use Rattle.cl_edit.proofs.ResolvedEdits.{period_answers, offset_answers, jitter_answers, distances_answers, burst_answers, edit_answers}
 use Rattle.cl_edit.proofs.resolve.change_of.Goals as goal
 

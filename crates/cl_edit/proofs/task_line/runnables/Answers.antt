@@ -2,8 +2,7 @@ use Rattle.std.proofs.Common.{◌≢◌, [], length-append, ◌∷◌, arith}
 use Rattle.std.proofs.lemmas.Bool.Decides.{nat_tests}
 use Rattle.cl_model.specs.declared.limits.TheConstants.{MOST_RUNNABLES}
 use Rattle.cl_edit.specs.Inner.LineReads.{runnable_in, runnables_in}
-use Rattle.cl_edit.proofs.Unreads.{kept_unread}
-use Rattle.cl_edit.proofs.WordLists.{all_read, too_many_left, unread_next, one_more_read}
+use Rattle.cl_edit.proofs.{Unreads.kept_unread, WordLists.{all_read, too_many_left, unread_next, one_more_read}}
 use Rattle.cl_edit.proofs.task_line.runnables.Goals as goal
 
 pub returns-then-len-eq-MOST_RUNNABLES-clause-read :

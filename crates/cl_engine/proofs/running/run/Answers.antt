@@ -1,4 +1,4 @@
-use Rattle.cl_engine.proofs.Answered.{kept, kept_without_memory}
+use Rattle.cl_engine.proofs.Answered.{kept}
 use Rattle.cl_engine.proofs.running.run.Goals as goal
 
 pub returns-in-Ok : goal.returns-in-Ok

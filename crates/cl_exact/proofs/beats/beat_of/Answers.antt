@@ -1,7 +1,5 @@
 use Rattle.std.proofs.Common.{ap, sym, ◌∙◌}
-use Rattle.cl_model.specs.ByNumber.{stimulus_of}
-use Rattle.cl_model.specs.Timing.{deadline_under}
-use Rattle.cl_model.specs.Kinds.{is_periodic}
+use Rattle.cl_model.specs.{ByNumber.stimulus_of, Timing.deadline_under, Kinds.is_periodic}
 use Rattle.cl_exact.proofs.ModelBeats.{is_of_period, periodic_kind, beat_is_of, beat_in_range}
 use Rattle.cl_exact.proofs.beats.beat_of.Goals as goal
 

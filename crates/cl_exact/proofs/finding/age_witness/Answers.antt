@@ -1,9 +1,7 @@
 use Rattle.std.proofs.Common.{◌+◌, ℕ, List, ap, arith}
 use Rattle.std.specs.Prelude.{slice_index}
-use Rattle.cl_exact.specs.Inner.Beats.{beat_in, read_at}
-use Rattle.cl_exact.specs.Inner.Found.{last_beat}
-use Rattle.cl_exact.proofs.BeatFacts.{reads_rise}
-use Rattle.cl_exact.proofs.ReactionAge.{reads_before_last}
+use Rattle.cl_exact.specs.Inner.{Beats.{beat_in, read_at}, Found.last_beat}
+use Rattle.cl_exact.proofs.{BeatFacts.reads_rise, ReactionAge.reads_before_last}
 use Rattle.cl_exact.proofs.finding.age_witness.Goals as goal
 
 pub read-from-requires : goal.read-from-requires

@@ -1,8 +1,6 @@
 use Rattle.std.proofs.Common.{arith, ◌/◌}
 use Rattle.cl_exact.specs.Inner.Beats.{beat_in}
-use Rattle.cl_exact.proofs.WholeScan.{some_count, first_some, scan_early, count_few, is_greatest, job_some, job_early, period_in_age, period_in_end, same_lengths}
-use Rattle.cl_exact.proofs.PeriodFacts.{last_period}
-use Rattle.cl_exact.proofs.FoundExact.{reaction_exact, age_exact, reduced_exact}
+use Rattle.cl_exact.proofs.{WholeScan.{some_count, first_some, scan_early, count_few, is_greatest, job_some, job_early, period_in_age, period_in_end, same_lengths}, PeriodFacts.last_period, FoundExact.{reaction_exact, age_exact, reduced_exact}}
 use Rattle.cl_exact.proofs.finding.exact_lengths.Goals as goal
 
 pub greatest_reaction-greatest-requires-clause-some :

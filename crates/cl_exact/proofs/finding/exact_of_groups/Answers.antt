@@ -1,8 +1,7 @@
 use Rattle.std.proofs.Common.{sym, subst, arith}
 use Rattle.cl_runs.specs.SystemOf.{system_of}
 use Rattle.cl_exact.specs.Inner.Periods.{IsLeastMultiple}
-use Rattle.cl_exact.proofs.LimitFacts.{seen, is_within, is_past}
-use Rattle.cl_exact.proofs.RunExact.{groups_always_ideal, groups_exact_in_runs}
+use Rattle.cl_exact.proofs.{LimitFacts.{seen, is_within, is_past}, RunExact.{groups_always_ideal, groups_exact_in_runs}}
 use Rattle.cl_exact.proofs.finding.exact_of_groups.Goals as goal
 
 pub hyper_limit-limit-requires : goal.hyper_limit-limit-requires

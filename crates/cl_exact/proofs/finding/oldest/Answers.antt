@@ -1,16 +1,7 @@
 use Rattle.std.proofs.Common.{◌≡◌, ◌+◌, ◌-◌, ◌*◌, ◌≤◌, ℕ, List, length, ap, sym, subst, ◌∙◌, arith}
 use Rattle.std.specs.Prelude.{slice_index}
-use Rattle.cl_exact.specs.declared.beat.Beat.{Beat}
-use Rattle.cl_exact.specs.Inner.Beats.{AreBeats, beat_in, read_at, forward_job}
-use Rattle.cl_exact.specs.Inner.Blocks.{EARLY}
-use Rattle.cl_exact.specs.Inner.Scans.{IsFirstWith}
-use Rattle.cl_exact.specs.Inner.Walks.{IsForwardWalk, IsBackwardWalk}
-use Rattle.cl_exact.specs.Inner.Found.{IsOldest, last_beat}
-use Rattle.cl_exact.proofs.BeatFacts.{reads_rise, job_small}
-use Rattle.cl_exact.proofs.ForwardJobs.{HOP}
-use Rattle.cl_exact.proofs.ReactionAge.{complete_after}
-use Rattle.cl_exact.proofs.StartUps.{last_steady_late, last_steady_soon}
-use Rattle.cl_exact.proofs.Oldest.{early_block, ends_late, oldest_is, oldest_early}
+use Rattle.cl_exact.specs.{declared.beat.Beat.Beat, Inner.{Beats.{AreBeats, beat_in, read_at, forward_job}, Blocks.EARLY, Scans.IsFirstWith, Walks.{IsForwardWalk, IsBackwardWalk}, Found.{IsOldest, last_beat}}}
+use Rattle.cl_exact.proofs.{BeatFacts.{reads_rise, job_small}, ForwardJobs.HOP, ReactionAge.complete_after, StartUps.{last_steady_late, last_steady_soon}, Oldest.{early_block, ends_late, oldest_is, oldest_early}}
 use Rattle.cl_exact.proofs.finding.oldest.Goals as goal
 
 -- the jobs of the walk, as a slice

@@ -1,9 +1,7 @@
 use Rattle.std.proofs.Common.{◌≡◌, ℕ, ◌+◌, ◌-◌, ◌<◌, length, slice_index, sym, subst, ◌∙◌, arith}
 use Rattle.std.proofs.lemmas.List.{get_or-set_other, length-set}
-use Rattle.cl_exact.specs.Inner.Blocks.{IsEarlyBlock, AreWrites}
-use Rattle.cl_exact.specs.Inner.Fronts.{IsGreatestTo, AreGreatestTo}
-use Rattle.cl_exact.proofs.BlockFacts.{are_rising, are_before, hopped_writes}
-use Rattle.cl_exact.proofs.FrontScans.{writes_in_order, raised_by_block, more_places, no_places}
+use Rattle.cl_exact.specs.Inner.{Blocks.{IsEarlyBlock, AreWrites}, Fronts.{IsGreatestTo, AreGreatestTo}}
+use Rattle.cl_exact.proofs.{BlockFacts.{are_rising, are_before, hopped_writes}, FrontScans.{writes_in_order, raised_by_block, more_places, no_places}}
 use Rattle.cl_exact.proofs.front_scan.raise_by_block.Goals as goal
 
 pub raised-requires-clause-in_order : goal.raised-requires-clause-in_order

@@ -1,6 +1,5 @@
 use Rattle.std.proofs.Common.{◌≡◌, ℕ, ◌+◌, ◌-◌, ◌<◌, ◌≤◌, length, slice_index}
-use Rattle.cl_exact.specs.Inner.Blocks.{AreWrites}
-use Rattle.cl_exact.specs.Inner.Fronts.{AreGreatestTo}
+use Rattle.cl_exact.specs.Inner.{Blocks.AreWrites, Fronts.AreGreatestTo}
 use Rattle.cl_exact.proofs.front_scan.raise_by_block.Given as goal
 
 abbrev pub invariant-loop-i : goal.invariant-loop-i

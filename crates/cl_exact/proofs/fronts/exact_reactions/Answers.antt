@@ -4,8 +4,7 @@ use Rattle.std.proofs.lemmas.Bool.{cases_lt}
 use Rattle.std.proofs.lemmas.List.{length-take}
 use Rattle.cl_runs.specs.SystemOf.{system_of}
 use Rattle.cl_exact.specs.ExactReactions.{IsReactionOf}
-use Rattle.cl_exact.proofs.LimitFacts.{seen}
-use Rattle.cl_exact.proofs.FrontReactions.{front_found, front_other}
+use Rattle.cl_exact.proofs.{LimitFacts.seen, FrontReactions.{front_found, front_other}}
 use Rattle.cl_exact.proofs.fronts.exact_reactions.Goals as goal
 
 pub returns-then-count-eq0-clause-reactions : goal.returns-then-count-eq0-clause-reactions

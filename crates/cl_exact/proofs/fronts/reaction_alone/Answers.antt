@@ -1,6 +1,4 @@
-use Rattle.cl_exact.proofs.WholeScan.{first_some, scan_early, some_count}
-use Rattle.cl_exact.proofs.StartUps.{steady_late}
-use Rattle.cl_exact.proofs.FrontParts.{greatest_steady}
+use Rattle.cl_exact.proofs.{WholeScan.{first_some, scan_early, some_count}, StartUps.steady_late, FrontParts.greatest_steady}
 use Rattle.cl_exact.proofs.fronts.reaction_alone.Goals as goal
 
 pub greatest_reaction-requires-clause-some : goal.greatest_reaction-requires-clause-some

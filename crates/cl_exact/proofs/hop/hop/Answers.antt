@@ -1,7 +1,6 @@
 use Rattle.std.proofs.Common.{refl, arith}
 use Rattle.std.specs.Prelude.{slice_index}
-use Rattle.cl_exact.proofs.BeatFacts.{reader_soon}
-use Rattle.cl_exact.proofs.BlockFacts.{first_read}
+use Rattle.cl_exact.proofs.{BeatFacts.reader_soon, BlockFacts.first_read}
 use Rattle.cl_exact.proofs.hop.hop.Goals as goal
 
 pub loop-i-init : goal.loop-i-init

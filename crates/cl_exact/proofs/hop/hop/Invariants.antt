@@ -1,6 +1,5 @@
 use Rattle.std.proofs.Common.{◌≡◌, ℕ, ◌<◌, ◌≤◌, length, slice_index}
-use Rattle.cl_exact.specs.Inner.Beats.{hop_to}
-use Rattle.cl_exact.specs.Inner.Blocks.{IsReadUpTo}
+use Rattle.cl_exact.specs.Inner.{Beats.hop_to, Blocks.IsReadUpTo}
 use Rattle.cl_exact.proofs.hop.hop.Given as goal
 
 abbrev pub invariant-loop-i : goal.invariant-loop-i

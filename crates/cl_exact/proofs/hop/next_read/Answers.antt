@@ -1,7 +1,6 @@
 use Rattle.std.proofs.Common.{ap, arith}
 use Rattle.cl_exact.specs.Inner.Beats.{read_at}
-use Rattle.cl_exact.proofs.BeatFacts.{reader_soon}
-use Rattle.cl_exact.proofs.BlockFacts.{read_stays, read_moves}
+use Rattle.cl_exact.proofs.{BeatFacts.reader_soon, BlockFacts.{read_stays, read_moves}}
 use Rattle.cl_exact.proofs.hop.next_read.Goals as goal
 
 pub returns-then-moment-read : goal.returns-then-moment-read

@@ -1,11 +1,7 @@
-use Rattle.std.proofs.Common.{◌≡◌, ℕ, ◌+◌, ◌-◌, ◌≤◌, ◌<◌, ◌∙◌, List, ap, length, arith}
+use Rattle.std.proofs.Common.{◌≡◌, ℕ, ◌-◌, ◌∙◌, List, ap, length, arith}
 use Rattle.std.specs.Prelude.{slice_index}
-use Rattle.cl_exact.specs.declared.beat.Beat.{Beat}
-use Rattle.cl_exact.specs.Inner.Beats.{AreBeats, beat_in, read_at, write_at, forward_job, forward_end}
-use Rattle.cl_exact.specs.Inner.Walks.{IsForwardWalk}
-use Rattle.cl_exact.proofs.BeatFacts.{last_place}
-use Rattle.cl_exact.proofs.ForwardJobs.{writes_soon, starts_before_end}
-use Rattle.cl_exact.proofs.Meetings.{meet_and_fall}
+use Rattle.cl_exact.specs.{declared.beat.Beat.Beat, Inner.{Beats.{AreBeats, beat_in, write_at, forward_job, forward_end}, Walks.IsForwardWalk}}
+use Rattle.cl_exact.proofs.{BeatFacts.last_place, ForwardJobs.{writes_soon, starts_before_end}, Meetings.meet_and_fall}
 use Rattle.cl_exact.proofs.meeting.chain_of.Goals as goal
 
 -- the last job writes when the chain ends

@@ -1,4 +1,4 @@
-use Rattle.std.proofs.Common.{◌≡◌, ℕ, suc, ◌+◌, ◌-◌, ◌≤◌, ◌<◌, ◌∙◌, sym, ap, subst, length, arith}
+use Rattle.std.proofs.Common.{◌≡◌, ℕ, suc, ◌-◌, ◌∙◌, sym, ap, subst, arith}
 use Rattle.cl_exact.specs.Inner.Beats.{beat_in, read_at, last_writer}
 use Rattle.cl_exact.proofs.Meetings.{IsLedBack, back_begins, back_has_writer, back_goes_on}
 use Rattle.cl_exact.proofs.meeting.last_leading.Goals as goal

@@ -1,8 +1,6 @@
 use Rattle.std.proofs.Common.{◌+◌, ◌<◌, length, subst, sym, ◌∙◌, arith, inl, inr}
-use Rattle.cl_exact.specs.Inner.Beats.{beat_in}
-use Rattle.cl_exact.specs.Inner.Scans.{IsGreatestOf}
-use Rattle.cl_exact.proofs.BeatFacts.{job_small}
-use Rattle.cl_exact.proofs.ScanFacts.{block_in_order, block_above, block_first, greatest_stays, greatest_rises}
+use Rattle.cl_exact.specs.Inner.{Beats.beat_in, Scans.IsGreatestOf}
+use Rattle.cl_exact.proofs.{BeatFacts.job_small, ScanFacts.{block_in_order, block_above, block_first, greatest_stays, greatest_rises}}
 use Rattle.cl_exact.proofs.scan.with_block.Goals as goal
 
 pub overflow_add-start : goal.overflow_add-start

@@ -1,6 +1,4 @@
-use Rattle.cl_examples.proofs.DividedRun.{broken_legal_divided}
-use Rattle.cl_examples.proofs.ModelOfExample.{one_core_system}
-use Rattle.cl_examples.proofs.WholeRun.{one_core_lawful, whole_legal, broken_not_legal}
+use Rattle.cl_examples.proofs.{DividedRun.broken_legal_divided, ModelOfExample.one_core_system, WholeRun.{one_core_lawful, whole_legal, broken_not_legal}}
 use Rattle.cl_examples.proofs.laws.runs_of_a_whole_runnable.Goals as goal
 
 pub returns-clause-system : goal.returns-clause-system

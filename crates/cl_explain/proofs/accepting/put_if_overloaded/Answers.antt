@@ -1,8 +1,7 @@
 use Rattle.std.proofs.Common.{◌≡◌, ℕ, List, [], ◌++◌, cond, Bool, sym, ap, ◌∙◌, subst, codes}
 use Rattle.std.specs.Prelude.{OnOk}
 use Rattle.cl_text.specs.Line.{line}
-use Rattle.cl_model.specs.declared.model.CoreDef.{CoreDef}
-use Rattle.cl_model.specs.ByNumber.{core_at}
+use Rattle.cl_model.specs.{declared.model.CoreDef.CoreDef, ByNumber.core_at}
 use Rattle.cl_explain.proofs.accepting.put_if_overloaded.Goals as goal
 
 pub returns-then-is_overloaded : goal.returns-then-is_overloaded

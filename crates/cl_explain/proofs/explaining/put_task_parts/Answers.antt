@@ -1,10 +1,8 @@
 use Rattle.std.proofs.Common.{◌≡◌, ℕ, List, ◌++◌, sym, ap, ◌∙◌}
 use Rattle.std.proofs.lemmas.List.{append_assoc}
 use Rattle.cl_runs.specs.SystemOf.{system_of}
-use Rattle.cl_resp.specs.declared.question.Question.{Question}
-use Rattle.cl_resp.specs.Response.{response_to}
-use Rattle.cl_bound.specs.declared.answer.TaskAnswer.{TaskAnswer}
-use Rattle.cl_bound.specs.Answers.{answer_with, answers_of, answer_at}
+use Rattle.cl_resp.specs.{declared.question.Question.Question, Response.response_to}
+use Rattle.cl_bound.specs.{declared.answer.TaskAnswer.TaskAnswer, Answers.{answer_with, answers_of, answer_at}}
 use Rattle.cl_report.specs.Report.{task_line}
 use Rattle.cl_explain.specs.Parts.{part_lines}
 use Rattle.cl_explain.proofs.AnswersByNumber.{answer_is}

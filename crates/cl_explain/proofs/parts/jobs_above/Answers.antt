@@ -1,9 +1,6 @@
 use Rattle.std.proofs.Common.{sym, ap, ◌∙◌, subst}
 use Rattle.cl_model.specs.declared.stimulus.StimulusKind.{StimulusKind}
-use Rattle.cl_stim.specs.declared.any_stimulus.AnyStimulus.{AnyStimulus}
-use Rattle.cl_stim.specs.AnyStimulus.{kind_of}
-use Rattle.cl_stim.specs.Releases.{most_releases}
-use Rattle.cl_stim.specs.Stimulus.{IsStimulus}
+use Rattle.cl_stim.specs.{declared.any_stimulus.AnyStimulus.AnyStimulus, AnyStimulus.kind_of, Releases.most_releases, Stimulus.IsStimulus}
 use Rattle.cl_stim.proofs.ValidStimuli.{has_stimulus}
 use Rattle.cl_explain.proofs.TasksByNumber.{jobs_are}
 use Rattle.cl_explain.proofs.parts.jobs_above.Goals as goal

@@ -2,11 +2,9 @@ use Rattle.std.proofs.Common.{◌≡◌, ℕ, ◌+◌, ◌<◌, List, ◌++◌, 
 use Rattle.std.specs.Prelude.{OnOk}
 use Rattle.std.specs.List.{position}
 use Rattle.std.proofs.lemmas.List.{append-nil}
-use Rattle.cl_model.specs.declared.task.RunnableDef.{RunnableDef}
-use Rattle.cl_model.specs.declared.task.TaskDef.{TaskDef}
+use Rattle.cl_model.specs.declared.task.{RunnableDef.RunnableDef, TaskDef.TaskDef}
 use Rattle.cl_explain.specs.Parts.{blocks_so_long}
-use Rattle.cl_explain.proofs.Blockers.{blocker_below, is_named, none_named, none_of_task, none_apart}
-use Rattle.cl_explain.proofs.parts.put_blocker.Goals.{then-may_block+in-None, else-may_block}
+use Rattle.cl_explain.proofs.{Blockers.{blocker_below, is_named, none_named, none_of_task, none_apart}, parts.put_blocker.Goals.{then-may_block+in-None, else-may_block}}
 use Rattle.cl_explain.proofs.parts.put_blocker.Goals as goal
 
 pub returns-in-Some : goal.returns-in-Some

@@ -1,5 +1,4 @@
-use Rattle.cl_explain.proofs.MarkedLabels.{still_ok}
-use Rattle.cl_explain.proofs.PartsOfTasks.{parts_are}
+use Rattle.cl_explain.proofs.{MarkedLabels.still_ok, PartsOfTasks.parts_are}
 use Rattle.cl_explain.proofs.parts.put_parts.Goals as goal
 
 pub returns : goal.returns

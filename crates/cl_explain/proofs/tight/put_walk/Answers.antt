@@ -1,6 +1,5 @@
 use Rattle.std.proofs.Common.{ℤ, List, length, ap, arith}
-use Rattle.cl_explain.proofs.MarkedLabels.{still_ok}
-use Rattle.cl_explain.proofs.WalksWithin.{its_walk, walk_within, walk_lines_are}
+use Rattle.cl_explain.proofs.{MarkedLabels.still_ok, WalksWithin.{its_walk, walk_within, walk_lines_are}}
 use Rattle.cl_explain.proofs.tight.put_walk.Goals as goal
 
 pub overflow_cast-place : goal.overflow_cast-place

@@ -1,8 +1,7 @@
 use Rattle.std.proofs.Common.{◌<◌, length, ap, ◌∙◌, arith, take_all}
 use Rattle.std.specs.Prelude.{sum_by}
 use Rattle.std.proofs.lemmas.List.Sums.{sum_by_more}
-use Rattle.cl_runs.specs.SystemOf.{system_of}
-use Rattle.cl_runs.specs.TaskTiming.{no_timing}
+use Rattle.cl_runs.specs.{SystemOf.system_of, TaskTiming.no_timing}
 use Rattle.cl_runs.proofs.ModelSystem.{count_is}
 use Rattle.cl_gen.specs.Count.{executions_of}
 use Rattle.cl_gen.proofs.counting.count_executions.Goals as goal

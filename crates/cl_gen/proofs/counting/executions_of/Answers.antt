@@ -1,6 +1,5 @@
 use Rattle.std.proofs.Common.{true, false, cond, sym, ap, ◌∙◌}
-use Rattle.cl_runs.specs.SystemOf.{system_of}
-use Rattle.cl_runs.specs.TaskTiming.{timing_at}
+use Rattle.cl_runs.specs.{SystemOf.system_of, TaskTiming.timing_at}
 use Rattle.cl_gen.specs.Count.{task_executions}
 use Rattle.cl_gen.proofs.TasksOfModels.{mark_is}
 use Rattle.cl_gen.proofs.counting.executions_of.Goals as goal

@@ -1,11 +1,8 @@
 use Rattle.std.proofs.Common.{◌≡◌, suc, ◌+◌, [], ◌∷◌, length, map, sym, ap, ◌∙◌, arith, length-append}
 use Rattle.std.proofs.lemmas.List.{length-map}
-use Rattle.cl_runs.specs.Pattern.{IsPattern}
-use Rattle.cl_runs.specs.SystemOf.{range_of}
+use Rattle.cl_runs.specs.{Pattern.IsPattern, SystemOf.range_of}
 use Rattle.cl_runs.proofs.ModelSystem.{well_formed}
-use Rattle.cl_gen.specs.Words.{Taken, word_of}
-use Rattle.cl_gen.specs.Drawn.{arrival_words, release_words, gap_after, job_word}
-use Rattle.cl_gen.specs.Inner.Arriving.{job_arriving}
+use Rattle.cl_gen.specs.{Words.{Taken, word_of}, Drawn.{arrival_words, release_words, gap_after, job_word}, Inner.Arriving.job_arriving}
 use Rattle.cl_gen.proofs.DrawnSoFar.{gap_few, taken_few, none_yet, one_more, jobs_few, jobs_within, all_drawn, word_after_all, next_word_is, first_word_is, few_at_release, gap_some}
 use Rattle.cl_gen.proofs.drawing.draw_jobs.Goals as goal
 

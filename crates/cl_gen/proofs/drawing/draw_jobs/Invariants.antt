@@ -1,7 +1,6 @@
 use Rattle.std.proofs.Common.{◌≡◌, ◌+◌, ◌-◌, length, map}
 use Rattle.cl_runs.specs.SystemOf.{range_of}
-use Rattle.cl_gen.specs.Words.{word_of}
-use Rattle.cl_gen.specs.Drawn.{arrival_words, job_word}
+use Rattle.cl_gen.specs.{Words.word_of, Drawn.{arrival_words, job_word}}
 use Rattle.cl_gen.proofs.DrawnSoFar.{AreDrawnSoFar}
 use Rattle.cl_gen.proofs.drawing.draw_jobs.Given as goal
 

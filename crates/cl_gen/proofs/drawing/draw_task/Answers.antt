@@ -1,15 +1,9 @@
 use Rattle.std.proofs.Common.{◌≡◌, ◌≤◌, List, map, sym, ap, ◌∙◌, subst}
 use Rattle.std.specs.Prelude.{All, IfOk, OnOk}
-use Rattle.cl_model.specs.declared.stimulus.StimulusKind.{StimulusKind}
-use Rattle.cl_model.specs.declared.task.RunnableDef.{RunnableDef}
-use Rattle.cl_model.specs.declared.task.TaskDef.{TaskDef}
-use Rattle.cl_model.specs.Ranges.{IsKindInRange}
-use Rattle.cl_model.specs.Timing.{IsKindOrdered}
+use Rattle.cl_model.specs.{declared.{stimulus.StimulusKind.StimulusKind, task.{RunnableDef.RunnableDef, TaskDef.TaskDef}}, Ranges.IsKindInRange, Timing.IsKindOrdered}
 use Rattle.cl_model.proofs.ValidTasks.{kind_in_range, kind_ordered, times_ordered}
-use Rattle.cl_runs.specs.SystemOf.{range_of, system_of}
-use Rattle.cl_runs.specs.TaskTiming.{TimeRange, timing_at}
-use Rattle.cl_gen.specs.Words.{word_of}
-use Rattle.cl_gen.specs.Drawn.{drawn_jobs, word_after}
+use Rattle.cl_runs.specs.{SystemOf.{range_of, system_of}, TaskTiming.{TimeRange, timing_at}}
+use Rattle.cl_gen.specs.{Words.word_of, Drawn.{drawn_jobs, word_after}}
 use Rattle.cl_gen.proofs.TasksOfModels.{pattern_is, ranges_of_slice}
 use Rattle.cl_gen.proofs.drawing.draw_task.Goals as goal
 

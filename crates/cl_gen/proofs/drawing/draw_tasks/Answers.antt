@@ -1,9 +1,7 @@
 use Rattle.std.proofs.Common.{◌<◌, length, ap, ◌∙◌, arith}
-use Rattle.cl_runs.specs.SystemOf.{system_of}
-use Rattle.cl_runs.specs.TaskTiming.{Timing, timing_at}
+use Rattle.cl_runs.specs.{SystemOf.system_of, TaskTiming.{Timing, timing_at}}
 use Rattle.cl_runs.proofs.ModelSystem.{count_is}
-use Rattle.cl_gen.specs.Words.{Taken, word_of}
-use Rattle.cl_gen.specs.Drawn.{drawn_jobs, word_after}
+use Rattle.cl_gen.specs.{Words.{Taken, word_of}, Drawn.{drawn_jobs, word_after}}
 use Rattle.cl_gen.proofs.DrawnTasks.{tasks_more, tasks_all}
 use Rattle.cl_gen.proofs.drawing.draw_tasks.Goals as goal
 

@@ -1,7 +1,6 @@
 use Rattle.std.proofs.Common.{◌≡◌, ◌*◌, ◌^◌, ◌≤◌, ◌++◌, drop}
 use Rattle.cl_runs.specs.SystemOf.{system_of}
-use Rattle.cl_gen.specs.Words.{word_of}
-use Rattle.cl_gen.specs.Drawn.{drawn_tasks}
+use Rattle.cl_gen.specs.{Words.word_of, Drawn.drawn_tasks}
 use Rattle.cl_gen.proofs.drawing.draw_tasks.Given as goal
 
 -- the jobs of the tasks so far and those of the rest are those of all, and few words are taken

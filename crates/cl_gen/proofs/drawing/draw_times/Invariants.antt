@@ -1,7 +1,6 @@
 use Rattle.std.proofs.Common.{◌≡◌, ◌+◌, ◌++◌, drop, map}
 use Rattle.cl_runs.specs.SystemOf.{range_of}
-use Rattle.cl_gen.specs.Words.{word_of}
-use Rattle.cl_gen.specs.Drawn.{drawn_times}
+use Rattle.cl_gen.specs.{Words.word_of, Drawn.drawn_times}
 use Rattle.cl_gen.proofs.drawing.draw_times.Given as goal
 
 -- the times so far and those of the rest are those of all, and each has taken a word

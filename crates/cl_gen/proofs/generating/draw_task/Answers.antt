@@ -1,7 +1,6 @@
 use Rattle.std.proofs.Common.{◌≡◌, ◌+◌, ◌-◌, ◌*◌, ◌/◌, ◌%◌, None, [], ◌∷◌, sym, ap, ◌∙◌}
 use Rattle.std.specs.Prelude.{slice_index, codes}
-use Rattle.cl_gen.specs.Words.{Taken, word_of, draw}
-use Rattle.cl_gen.specs.Generated.{numbered, periods, access_of, stimulus_number, generated_runnable, generated_task}
+use Rattle.cl_gen.specs.{Words.{Taken, word_of, draw}, Generated.{numbered, periods, access_of, stimulus_number, generated_runnable, generated_task}}
 use Rattle.cl_gen.proofs.generating.draw_task.Goals as goal
 
 pub draw_runnables-requires-clause-own : goal.draw_runnables-requires-clause-own

@@ -1,6 +1,5 @@
 use Rattle.std.proofs.Common.{◌+◌, ◌*◌, ap, ◌∙◌, arith}
-use Rattle.cl_gen.specs.Words.{Taken, word_of}
-use Rattle.cl_gen.specs.Generated.{generated_task}
+use Rattle.cl_gen.specs.{Words.{Taken, word_of}, Generated.generated_task}
 use Rattle.cl_gen.proofs.MappedRanges.{mapped_more}
 use Rattle.cl_gen.proofs.generating.draw_tasks.Goals as goal
 

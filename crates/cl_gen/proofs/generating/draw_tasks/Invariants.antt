@@ -1,7 +1,6 @@
 use Rattle.std.proofs.Common.{◌≡◌, ◌*◌, map}
 use Rattle.std.specs.List.{range_with_len}
-use Rattle.cl_gen.specs.Words.{word_of}
-use Rattle.cl_gen.specs.Generated.{generated_task}
+use Rattle.cl_gen.specs.{Words.word_of, Generated.generated_task}
 use Rattle.cl_gen.proofs.generating.draw_tasks.Given as goal
 
 abbrev pub invariant-loop-number : goal.invariant-loop-number

@@ -1,13 +1,9 @@
 use Rattle.std.proofs.Common.{Ok, Err, Result, ◌≡◌, sym, subst}
 use Rattle.std.specs.Prelude.{IfOk}
-use Rattle.cl_model.specs.declared.model.SystemModel.{SystemModel}
-use Rattle.cl_model.specs.AreNamed.{AreNamed}
-use Rattle.cl_model.specs.Validity.{IsValid}
+use Rattle.cl_model.specs.{declared.model.SystemModel.SystemModel, AreNamed.AreNamed, Validity.IsValid}
 use Rattle.cl_time.specs.declared.no_memory.NoMemory.{NoMemory}
-use Rattle.cl_gen.specs.Words.{word_of}
-use Rattle.cl_gen.specs.Generated.{generated}
-use Rattle.cl_gen.proofs.GeneratedRanges.{are_named}
-use Rattle.cl_gen.proofs.ValidGenerated.{words_valid}
+use Rattle.cl_gen.specs.{Words.word_of, Generated.generated}
+use Rattle.cl_gen.proofs.{GeneratedRanges.are_named, ValidGenerated.words_valid}
 use Rattle.cl_gen.proofs.generating.generate.Goals as goal
 
 valid_if : (result : Result SystemModel NoMemory) (model : SystemModel) → IfOk result (λ m. m ≡ model) → IsValid model → IfOk result IsValid

@@ -1,6 +1,5 @@
 use Rattle.cl_gen.specs.Words.{word_of}
-use Rattle.cl_gen.proofs.GeneratedRanges.{are_named}
-use Rattle.cl_gen.proofs.ValidGenerated.{words_valid}
+use Rattle.cl_gen.proofs.{GeneratedRanges.are_named, ValidGenerated.words_valid}
 use Rattle.cl_gen.proofs.laws.generated_models_are_valid.Goals as goal
 
 pub returns : goal.returns

@@ -1,7 +1,5 @@
 use Rattle.std.proofs.Common.{sym, subst}
-use Rattle.cl_runs.specs.declared.job.JobTable.{JobTable}
-use Rattle.cl_runs.specs.SystemOf.{system_of}
-use Rattle.cl_runs.specs.Table.{IsLawful}
+use Rattle.cl_runs.specs.{declared.job.JobTable.JobTable, SystemOf.system_of, Table.IsLawful}
 use Rattle.cl_gen.proofs.LawfulTables.{table_lawful}
 use Rattle.cl_gen.proofs.table.draw_table.Goals as goal
 

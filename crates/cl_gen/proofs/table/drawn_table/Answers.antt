@@ -1,9 +1,6 @@
 use Rattle.std.proofs.Common.{List, ap, ◌∙◌}
-use Rattle.cl_runs.specs.declared.job.Job.{Job}
-use Rattle.cl_runs.specs.declared.job.JobTable.{JobTable}
-use Rattle.cl_runs.specs.SystemOf.{system_of}
-use Rattle.cl_gen.specs.Words.{Taken, word_of}
-use Rattle.cl_gen.specs.Drawn.{drawn_tasks, drawn}
+use Rattle.cl_runs.specs.{declared.job.{Job.Job, JobTable.JobTable}, SystemOf.system_of}
+use Rattle.cl_gen.specs.{Words.{Taken, word_of}, Drawn.{drawn_tasks, drawn}}
 use Rattle.cl_gen.proofs.table.drawn_table.Goals as goal
 
 pub returns : goal.returns

@@ -1,9 +1,7 @@
 use Rattle.std.proofs.Common.{true, false, sym, ◌∙◌}
 use Rattle.std.proofs.lemmas.Bool.{false≢true}
 use Rattle.std.proofs.lemmas.Result.{IfOk-weaker}
-use Rattle.cl_runs.specs.SystemOf.{system_of}
-use Rattle.cl_runs.specs.TaskTiming.{timing_at}
-use Rattle.cl_runs.specs.Table.{AreLawfulJobs}
+use Rattle.cl_runs.specs.{SystemOf.system_of, TaskTiming.timing_at, Table.AreLawfulJobs}
 use Rattle.cl_gen.specs.Inner.WishedTasks.{AreWishedOf}
 use Rattle.cl_gen.proofs.TasksOfModels.{mark_is}
 use Rattle.cl_gen.proofs.wishing.task_jobs.Goals as goal

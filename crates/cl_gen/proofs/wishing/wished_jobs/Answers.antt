@@ -2,10 +2,7 @@ use Rattle.std.proofs.Common.{List, map, sym, ap, subst, arith}
 use Rattle.std.specs.Prelude.{All}
 use Rattle.std.specs.List.{AllZip}
 use Rattle.std.proofs.lemmas.List.Elements.{All-push}
-use Rattle.cl_runs.specs.declared.job.Job.{Job}
-use Rattle.cl_runs.specs.Pattern.{least_gap, greatest_gap}
-use Rattle.cl_runs.specs.SystemOf.{range_of}
-use Rattle.cl_runs.specs.Table.{LiesIn}
+use Rattle.cl_runs.specs.{declared.job.Job.Job, Pattern.{least_gap, greatest_gap}, SystemOf.range_of, Table.LiesIn}
 use Rattle.cl_gen.proofs.WishedJobs.{none_yet, one_more, all_wished}
 use Rattle.cl_gen.proofs.wishing.wished_jobs.Goals as goal
 

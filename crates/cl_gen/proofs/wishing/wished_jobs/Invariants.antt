@@ -1,9 +1,7 @@
 use Rattle.std.proofs.Common.{◌-◌, map}
 use Rattle.std.specs.Prelude.{All}
 use Rattle.std.specs.List.{AllZip}
-use Rattle.cl_runs.specs.declared.job.Job.{Job}
-use Rattle.cl_runs.specs.SystemOf.{range_of}
-use Rattle.cl_runs.specs.Table.{LiesIn}
+use Rattle.cl_runs.specs.{declared.job.Job.Job, SystemOf.range_of, Table.LiesIn}
 use Rattle.cl_gen.proofs.WishedJobs.{FollowSoFar}
 use Rattle.cl_gen.proofs.wishing.wished_jobs.Given as goal
 

@@ -1,19 +1,10 @@
 use Rattle.std.proofs.Common.{◌≤◌, List, map, sym, ap, ◌∙◌, subst}
 use Rattle.std.specs.Prelude.{All}
 use Rattle.std.specs.List.{AllZip}
-use Rattle.cl_model.specs.declared.stimulus.StimulusKind.{StimulusKind}
-use Rattle.cl_model.specs.declared.task.RunnableDef.{RunnableDef}
-use Rattle.cl_model.specs.declared.task.TaskDef.{TaskDef}
-use Rattle.cl_model.specs.Ranges.{IsKindInRange}
-use Rattle.cl_model.specs.Timing.{IsKindOrdered}
+use Rattle.cl_model.specs.{declared.{stimulus.StimulusKind.StimulusKind, task.{RunnableDef.RunnableDef, TaskDef.TaskDef}}, Ranges.IsKindInRange, Timing.IsKindOrdered}
 use Rattle.cl_model.proofs.ValidTasks.{kind_in_range, kind_ordered, times_ordered}
-use Rattle.cl_runs.specs.declared.job.Job.{Job}
-use Rattle.cl_runs.specs.Arrivals.{FollowPattern}
-use Rattle.cl_runs.specs.SystemOf.{range_of, system_of}
-use Rattle.cl_runs.specs.TaskTiming.{TimeRange, timing_at}
-use Rattle.cl_runs.specs.Table.{LiesIn, AreLawfulJobs}
-use Rattle.cl_gen.proofs.TasksOfModels.{pattern_is, ranges_of_slice}
-use Rattle.cl_gen.proofs.WishedTables.{of_both}
+use Rattle.cl_runs.specs.{declared.job.Job.Job, Arrivals.FollowPattern, SystemOf.{range_of, system_of}, TaskTiming.{TimeRange, timing_at}, Table.{LiesIn, AreLawfulJobs}}
+use Rattle.cl_gen.proofs.{TasksOfModels.{pattern_is, ranges_of_slice}, WishedTables.of_both}
 use Rattle.cl_gen.proofs.wishing.wished_task.Goals as goal
 
 pub wished_jobs-requires-clause-kind : goal.wished_jobs-requires-clause-kind

@@ -1,10 +1,8 @@
 use Rattle.std.proofs.Common.{◌≡◌, ◌<◌, None, List, get_or, set, length, sym, ap, ◌∙◌, arith, below_more}
 use Rattle.std.proofs.lemmas.List.{get_or_default, get_or-set_same, get_or-set_other, length-map, length-set, ext_get_or}
-use Rattle.cl_model.specs.declared.model.SystemModel.{SystemModel}
-use Rattle.cl_model.specs.declared.chain.RequirementDef.{RequirementDef}
+use Rattle.cl_model.specs.declared.{model.SystemModel.SystemModel, chain.RequirementDef.RequirementDef}
 use Rattle.cl_runs.specs.Requirements.{no_requirement, requirement_at}
-use Rattle.cl_analyse.specs.declared.findings.Verdict.TheVariants.{Unshown}
-use Rattle.cl_analyse.specs.Verdicts.{verdict_at, verdict_of, verdicts_of}
+use Rattle.cl_analyse.specs.{declared.findings.Verdict.TheVariants.Unshown, Verdicts.{verdict_at, verdict_of, verdicts_of}}
 use Rattle.cl_incr.proofs.NewFindings.{verdict_there}
 use Rattle.cl_incr.proofs.chain_lists.judge_anew.Goals as goal
 

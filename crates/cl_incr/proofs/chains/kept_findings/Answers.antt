@@ -1,6 +1,5 @@
 use Rattle.std.proofs.Common.{List, get_or, sym, ap, ◌∙◌}
-use Rattle.cl_analyse.specs.declared.findings.ChainAnswer.{ChainAnswer}
-use Rattle.cl_analyse.specs.declared.findings.ExactAnswer.{ExactAnswer}
+use Rattle.cl_analyse.specs.declared.findings.{ChainAnswer.ChainAnswer, ExactAnswer.ExactAnswer}
 use Rattle.cl_incr.proofs.KeptAnswers.{kept_chain}
 use Rattle.cl_incr.proofs.chains.kept_findings.Goals as goal
 

@@ -1,10 +1,8 @@
 use Rattle.std.proofs.Common.{sym, ap, ◌∙◌, arith}
-use Rattle.cl_model.specs.declared.group.Group.{Group}
-use Rattle.cl_model.specs.Groups.{no_group, groups_at}
+use Rattle.cl_model.specs.{declared.group.Group.Group, Groups.{no_group, groups_at}}
 use Rattle.cl_runs.specs.SystemOf.{system_of}
 use Rattle.cl_bound.specs.Answers.{answer_at, response_in}
-use Rattle.cl_incr.specs.declared.question.GroupQuestion.{GroupQuestion}
-use Rattle.cl_incr.specs.Questions.{group_question}
+use Rattle.cl_incr.specs.{declared.question.GroupQuestion.GroupQuestion, Questions.group_question}
 use Rattle.cl_incr.proofs.SameQuestions.{maps_at}
 use Rattle.cl_incr.proofs.comparing.have_other_responses.Goals as goal
 

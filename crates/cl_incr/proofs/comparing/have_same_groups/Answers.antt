@@ -2,9 +2,8 @@ use Rattle.std.proofs.Common.{sym, ap, ◌∙◌, arith, below_more, refl}
 use Rattle.cl_model.specs.Groups.{no_group, groups_at}
 use Rattle.cl_runs.specs.SystemOf.{system_of}
 use Rattle.cl_incr.specs.Questions.{group_question}
-use Rattle.cl_incr.proofs.SameQuestions.{same_maps, maps_count, maps_at}
+use Rattle.cl_incr.proofs.{SameQuestions.{same_maps, maps_count, maps_at}, comparing.have_same_groups.Goals.{then-group_count-count-via-then-group_count-count, then-group_count-count-via-else-group_count-count+then-have_other_responses}}
 use Rattle.cl_incr.proofs.comparing.have_same_groups.Goals as goal
-use Rattle.cl_incr.proofs.comparing.have_same_groups.Goals.{then-group_count-count-via-then-group_count-count, then-group_count-count-via-else-group_count-count+then-have_other_responses}
 
 pub returns-then-group_count-count : goal.returns-then-group_count-count
 returns-then-group_count-count c = (

@@ -1,7 +1,5 @@
 use Rattle.std.proofs.Common.{◌≡◌, not, sym, ap, ◌∙◌, arith}
-use Rattle.cl_model.specs.declared.task.TaskDef.{TaskDef}
-use Rattle.cl_model.specs.ByNumber.{task_at}
-use Rattle.cl_model.specs.Kinds.{is_timed}
+use Rattle.cl_model.specs.{declared.task.TaskDef.TaskDef, ByNumber.task_at, Kinds.is_timed}
 use Rattle.cl_incr.proofs.SameQuestions.{saves_not_across, saves_not_upward, saves_not_timed, saves_where_untimed}
 use Rattle.cl_incr.proofs.comparing.saves.Goals as goal
 

@@ -3,13 +3,9 @@ use Rattle.std.specs.Prelude.{All, Contains}
 use Rattle.std.proofs.lemmas.List.Elements.{All-append, Contains-append_left, Contains-append_right}
 use Rattle.std.proofs.lemmas.List.{get_or-map}
 use Rattle.cl_model.specs.ByNumber.{no_chain, chain_at}
-use Rattle.cl_analyse.specs.declared.findings.ChainAnswer.{ChainAnswer}
-use Rattle.cl_analyse.specs.declared.findings.ChainAnswer.TheVariants.{Late}
-use Rattle.cl_analyse.specs.ChainAnswers.{chain_answer_of, chain_answer_at}
-use Rattle.cl_incr.specs.Inner.Listed.{listed, AreListedBelow}
-use Rattle.cl_incr.specs.Inner.News.{NamesNoMoved}
-use Rattle.cl_incr.proofs.ChainLists.{chain_count}
-use Rattle.cl_incr.proofs.Mended.{stay_found_but}
+use Rattle.cl_analyse.specs.{declared.findings.ChainAnswer.{ChainAnswer, TheVariants.Late}, ChainAnswers.{chain_answer_of, chain_answer_at}}
+use Rattle.cl_incr.specs.Inner.{Listed.{listed, AreListedBelow}, News.NamesNoMoved}
+use Rattle.cl_incr.proofs.{ChainLists.chain_count, Mended.stay_found_but}
 use Rattle.cl_incr.proofs.mend.chains_to_ask.Goals as goal
 
 pub listed_under-requires : goal.listed_under-requires

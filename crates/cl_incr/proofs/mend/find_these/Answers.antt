@@ -1,10 +1,7 @@
 use Rattle.std.proofs.Common.{◌≡◌, ℕ, ◌++◌, [], ◌∷◌, List, get_or, length, sym, ap, ◌∙◌, subst}
 use Rattle.std.proofs.lemmas.List.{take_more, take_all, map-append}
 use Rattle.std.proofs.lemmas.List.Elements.{All-nil, All-push}
-use Rattle.cl_incr.specs.declared.news.FoundChain.{FoundChain}
-use Rattle.cl_incr.specs.Changed.{IsChangedChain}
-use Rattle.cl_incr.specs.Inner.Kept.{AreFoundOf}
-use Rattle.cl_incr.specs.Inner.News.{chains_found, AreAllFound}
+use Rattle.cl_incr.specs.{declared.news.FoundChain.FoundChain, Changed.IsChangedChain, Inner.{Kept.AreFoundOf, News.{chains_found, AreAllFound}}}
 use Rattle.cl_incr.proofs.AskedSteps.{asks_start, asks_on, asks_all}
 use Rattle.cl_incr.proofs.mend.find_these.Goals as goal
 

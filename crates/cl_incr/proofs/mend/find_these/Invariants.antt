@@ -1,6 +1,5 @@
 use Rattle.std.proofs.Common.{◌≡◌, length, take}
-use Rattle.cl_incr.specs.Changed.{IsChangedChain}
-use Rattle.cl_incr.specs.Inner.News.{chains_found, AreAllFound}
+use Rattle.cl_incr.specs.{Changed.IsChangedChain, Inner.News.{chains_found, AreAllFound}}
 use Rattle.cl_incr.proofs.AskedSteps.{AsksBefore}
 use Rattle.cl_incr.proofs.mend.find_these.Given as goal
 

@@ -1,8 +1,6 @@
 use Rattle.std.proofs.Common.{◌≡◌, ◌+◌, ◌<◌, List, length, get_or, ap, ◌∙◌, subst, arith}
 use Rattle.std.proofs.lemmas.List.{get_or_default}
-use Rattle.cl_analyse.specs.declared.findings.ChainAnswer.{ChainAnswer}
-use Rattle.cl_analyse.specs.declared.findings.ChainAnswer.TheVariants.{Late}
-use Rattle.cl_analyse.specs.ChainAnswers.{chain_answer_at}
+use Rattle.cl_analyse.specs.{declared.findings.ChainAnswer.{ChainAnswer, TheVariants.Late}, ChainAnswers.chain_answer_at}
 use Rattle.cl_incr.specs.Inner.News.{HasBounds}
 use Rattle.cl_incr.proofs.Mended.{told_next, known_next}
 use Rattle.cl_incr.proofs.mend.late_chains.Goals as goal

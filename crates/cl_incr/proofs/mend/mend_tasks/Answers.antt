@@ -1,12 +1,9 @@
 use Rattle.std.proofs.Common.{◌≡◌, get_or, length, refl, sym, ◌∙◌, arith}
 use Rattle.std.proofs.lemmas.List.{length-set}
 use Rattle.cl_runs.specs.SystemOf.{system_of}
-use Rattle.cl_bound.specs.declared.answer.TaskAnswer.TheVariants.{Late}
-use Rattle.cl_bound.specs.Answers.{answer_at, answers_of}
+use Rattle.cl_bound.specs.{declared.answer.TaskAnswer.TheVariants.Late, Answers.{answer_at, answers_of}}
 use Rattle.cl_incr.specs.Changed.{IsChangedTask}
-use Rattle.cl_incr.proofs.AskedSteps.{asks_start, asks_on, asks_all}
-use Rattle.cl_incr.proofs.KeptAnswers.{answer_is, answer_count}
-use Rattle.cl_incr.proofs.Waiting.{all_ahead, item_next, all_items}
+use Rattle.cl_incr.proofs.{AskedSteps.{asks_start, asks_on, asks_all}, KeptAnswers.{answer_is, answer_count}, Waiting.{all_ahead, item_next, all_items}}
 use Rattle.cl_incr.proofs.mend.mend_tasks.Goals as goal
 
 pub loop-task-init : goal.loop-task-init

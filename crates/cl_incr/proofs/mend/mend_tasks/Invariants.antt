@@ -2,8 +2,7 @@ use Rattle.std.proofs.Common.{◌≡◌, ℕ, ◌<◌, length}
 use Rattle.cl_runs.specs.SystemOf.{system_of}
 use Rattle.cl_bound.specs.Answers.{answer_at, answers_of}
 use Rattle.cl_incr.specs.Changed.{IsChangedTask}
-use Rattle.cl_incr.proofs.AskedSteps.{AsksBefore}
-use Rattle.cl_incr.proofs.Waiting.{IsRightOrAhead}
+use Rattle.cl_incr.proofs.{AskedSteps.AsksBefore, Waiting.IsRightOrAhead}
 use Rattle.cl_incr.proofs.mend.mend_tasks.Given as goal
 
 -- the tasks that aren't ahead have their answers in the new model

@@ -1,23 +1,11 @@
 use Rattle.std.proofs.Common.{◌≡◌, ℕ, ◌<◌, ◌⊎◌, List, length, sym, ap, ◌∙◌, subst, arith}
 use Rattle.std.specs.Prelude.{All, Contains}
 use Rattle.std.proofs.lemmas.List.Elements.{All-contains}
-use Rattle.cl_runs.specs.SystemOf.{system_of}
-use Rattle.cl_runs.specs.Requirements.{required_chain, requirement_at}
+use Rattle.cl_runs.specs.{SystemOf.system_of, Requirements.{required_chain, requirement_at}}
 use Rattle.cl_model.specs.ByNumber.{tasks_of_core}
-use Rattle.cl_bound.specs.declared.answer.TaskAnswer.{TaskAnswer}
-use Rattle.cl_bound.specs.declared.answer.TaskAnswer.TheVariants.{Late}
-use Rattle.cl_bound.specs.Answers.{answer_at, answers_of}
-use Rattle.cl_incr.specs.Changed.{IsChangedChain}
-use Rattle.cl_incr.specs.declared.shift.Shift.{Shift}
-use Rattle.cl_incr.specs.Touched.{AreAnswersBut}
-use Rattle.cl_incr.specs.Inner.Listed.{listed, AreListedBelow}
-use Rattle.cl_incr.specs.Inner.News.{chains_found, StayFoundBut}
-use Rattle.cl_incr.specs.Inner.Reach.{HadAnswer, StandBut}
-use Rattle.cl_incr.specs.Inner.Shift.{task_before, shifted}
-use Rattle.cl_incr.proofs.AskedSteps.{asks_none, asks_for_changes}
-use Rattle.cl_incr.proofs.KeptAnswers.{answer_count}
-use Rattle.cl_incr.proofs.Mended.{stand_but}
-use Rattle.cl_incr.proofs.ShiftedAnswers.{shifted_answer_count, answers_kept_but}
+use Rattle.cl_bound.specs.{declared.answer.TaskAnswer.{TaskAnswer, TheVariants.Late}, Answers.{answer_at, answers_of}}
+use Rattle.cl_incr.specs.{Changed.IsChangedChain, declared.shift.Shift.Shift, Touched.AreAnswersBut, Inner.{Listed.{listed, AreListedBelow}, News.{chains_found, StayFoundBut}, Reach.{HadAnswer, StandBut}, Shift.{task_before, shifted}}}
+use Rattle.cl_incr.proofs.{AskedSteps.{asks_none, asks_for_changes}, KeptAnswers.answer_count, Mended.stand_but, ShiftedAnswers.{shifted_answer_count, answers_kept_but}}
 use Rattle.cl_incr.proofs.mend.news_of.Goals as goal
 
 -- the answers before, under the new numbers

@@ -1,8 +1,7 @@
 use Rattle.std.proofs.Common.{ℕ, ◌<◌, ◌⊎◌, List, length, sym, subst}
 use Rattle.std.specs.Prelude.{IfOk, Contains}
 use Rattle.cl_analyse.specs.ChainAnswers.{chain_answer_at}
-use Rattle.cl_incr.specs.declared.shift.Shift.{Shift}
-use Rattle.cl_incr.specs.Inner.News.{NamesNoMoved}
+use Rattle.cl_incr.specs.{declared.shift.Shift.Shift, Inner.News.NamesNoMoved}
 use Rattle.cl_incr.proofs.mend.renumbered_chains.Goals as goal
 
 -- what has bounds names no task

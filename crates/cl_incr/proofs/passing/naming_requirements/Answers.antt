@@ -1,8 +1,7 @@
 use Rattle.std.proofs.Common.{[], length, sym, ap, ◌∙◌, subst, arith, below_more}
 use Rattle.std.proofs.lemmas.List.{length-replicate}
 use Rattle.cl_model.specs.declared.model.SystemModel.{SystemModel}
-use Rattle.cl_incr.specs.Inner.Listed.{AreListedBelow}
-use Rattle.cl_incr.specs.Inner.Passes.{IsListedNamed}
+use Rattle.cl_incr.specs.Inner.{Listed.AreListedBelow, Passes.IsListedNamed}
 use Rattle.cl_incr.proofs.Listing.{none_below}
 use Rattle.cl_incr.proofs.passing.naming_requirements.Goals as goal
 

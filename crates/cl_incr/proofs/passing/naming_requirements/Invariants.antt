@@ -1,6 +1,5 @@
 use Rattle.std.proofs.Common.{◌≡◌, ℕ, ◌<◌, length}
-use Rattle.cl_incr.specs.Inner.Listed.{AreListedBelow}
-use Rattle.cl_incr.specs.Inner.Passes.{IsListedNamed}
+use Rattle.cl_incr.specs.Inner.{Listed.AreListedBelow, Passes.IsListedNamed}
 use Rattle.cl_incr.proofs.passing.naming_requirements.Given as goal
 
 -- the requirements so far are listed

@@ -1,7 +1,6 @@
 use Rattle.std.proofs.Common.{[], length, sym, ap, ◌∙◌, subst, arith, below_more}
 use Rattle.std.proofs.lemmas.List.{length-replicate}
-use Rattle.cl_incr.specs.Inner.Listed.{AreListedBelow}
-use Rattle.cl_incr.specs.Inner.Passes.{IsListedAlong}
+use Rattle.cl_incr.specs.Inner.{Listed.AreListedBelow, Passes.IsListedAlong}
 use Rattle.cl_incr.proofs.Listing.{none_below}
 use Rattle.cl_incr.proofs.passing.passing_chains.Goals as goal
 

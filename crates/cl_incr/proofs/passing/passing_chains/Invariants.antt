@@ -1,6 +1,5 @@
 use Rattle.std.proofs.Common.{◌≡◌, ℕ, ◌<◌, length}
-use Rattle.cl_incr.specs.Inner.Listed.{AreListedBelow}
-use Rattle.cl_incr.specs.Inner.Passes.{IsListedAlong}
+use Rattle.cl_incr.specs.Inner.{Listed.AreListedBelow, Passes.IsListedAlong}
 use Rattle.cl_incr.proofs.passing.passing_chains.Given as goal
 
 -- the chains so far are listed

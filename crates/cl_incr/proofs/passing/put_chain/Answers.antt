@@ -1,8 +1,7 @@
 use Rattle.std.proofs.Common.{◌≡◌, ℕ, ◌<◌, ◌++◌, [], ◌∷◌, List, length, set, sym, subst, arith, below_more}
 use Rattle.std.specs.Prelude.{Contains}
 use Rattle.std.proofs.lemmas.List.Elements.{All-from_get_or}
-use Rattle.cl_model.specs.declared.group.Group.{Group}
-use Rattle.cl_model.specs.Groups.{no_group, group_at, groups_at}
+use Rattle.cl_model.specs.{declared.group.Group.Group, Groups.{no_group, group_at, groups_at}}
 use Rattle.cl_incr.specs.Inner.Listed.{listed, AreListedBelow, StayListed}
 use Rattle.cl_incr.proofs.Listing.{stay_still, stay_after, put_there, put_stays, put_below}
 use Rattle.cl_incr.proofs.passing.put_chain.Goals as goal

@@ -2,11 +2,9 @@ use Rattle.std.proofs.Common.{◌≡◌, ℕ, ◌<◌, ◌++◌, [], ◌∷◌, 
 use Rattle.std.specs.Prelude.{Contains, unwrap_or}
 use Rattle.std.proofs.lemmas.List.{get_or_default}
 use Rattle.std.proofs.lemmas.Result.{on_ok_weaker}
-use Rattle.cl_model.specs.declared.model.SystemModel.{SystemModel}
-use Rattle.cl_model.specs.declared.chain.RequirementDef.{RequirementDef}
+use Rattle.cl_model.specs.declared.{model.SystemModel.SystemModel, chain.RequirementDef.RequirementDef}
 use Rattle.cl_runs.specs.Requirements.{no_requirement, requirement_at, required_chain}
-use Rattle.cl_incr.specs.Inner.Listed.{listed, AreListedBelow}
-use Rattle.cl_incr.specs.Inner.Passes.{IsListedNamed}
+use Rattle.cl_incr.specs.Inner.{Listed.{listed, AreListedBelow}, Passes.IsListedNamed}
 use Rattle.cl_incr.proofs.Listing.{put_there, put_below}
 use Rattle.cl_incr.proofs.passing.put_requirement.Goals as goal
 

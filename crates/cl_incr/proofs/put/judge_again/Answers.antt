@@ -1,12 +1,9 @@
 use Rattle.std.proofs.Common.{◌≡◌, ℕ, inl, inr, None, List, get_or, length, sym, ap, ◌∙◌, arith}
 use Rattle.std.proofs.lemmas.List.{get_or_default, length-map, length-set}
-use Rattle.cl_model.specs.declared.model.SystemModel.{SystemModel}
-use Rattle.cl_model.specs.declared.chain.RequirementDef.{RequirementDef}
+use Rattle.cl_model.specs.declared.{model.SystemModel.SystemModel, chain.RequirementDef.RequirementDef}
 use Rattle.cl_runs.specs.Requirements.{no_requirement, requirement_at}
-use Rattle.cl_analyse.specs.declared.findings.Verdict.TheVariants.{Unshown}
-use Rattle.cl_analyse.specs.Verdicts.{verdict_at, verdict_of, verdicts_of}
-use Rattle.cl_incr.proofs.NewFindings.{verdict_there}
-use Rattle.cl_incr.proofs.Waiting.{all_ahead, item_next, all_items}
+use Rattle.cl_analyse.specs.{declared.findings.Verdict.TheVariants.Unshown, Verdicts.{verdict_at, verdict_of, verdicts_of}}
+use Rattle.cl_incr.proofs.{NewFindings.verdict_there, Waiting.{all_ahead, item_next, all_items}}
 use Rattle.cl_incr.proofs.put.judge_again.Goals as goal
 
 pub loop-requirement-init : goal.loop-requirement-init

@@ -3,8 +3,7 @@ use Rattle.std.specs.Prelude.{All, Contains}
 use Rattle.std.proofs.lemmas.List.{get_or-map, get_or_default, length-map, length-set}
 use Rattle.std.proofs.lemmas.List.Elements.{Contains-get_or}
 use Rattle.cl_analyse.specs.declared.findings.ExactAnswer.{ExactAnswer}
-use Rattle.cl_incr.specs.declared.news.FoundChain.{FoundChain}
-use Rattle.cl_incr.specs.Inner.Put.{found_at}
+use Rattle.cl_incr.specs.{declared.news.FoundChain.FoundChain, Inner.Put.found_at}
 use Rattle.cl_incr.proofs.Puts.{each_next, put_next, all_put}
 use Rattle.cl_incr.proofs.put.put_chains.Goals as goal
 

@@ -1,7 +1,6 @@
 use Rattle.std.proofs.Common.{◌≡◌, ℕ, ◌<◌, ◌⊎◌, length, get_or}
 use Rattle.std.specs.Prelude.{Contains}
-use Rattle.cl_incr.specs.declared.news.FoundChain.{FoundChain}
-use Rattle.cl_incr.specs.Inner.Put.{found_at}
+use Rattle.cl_incr.specs.{declared.news.FoundChain.FoundChain, Inner.Put.found_at}
 use Rattle.cl_incr.proofs.Puts.{standing}
 use Rattle.cl_incr.proofs.put.put_chains.Given as goal
 

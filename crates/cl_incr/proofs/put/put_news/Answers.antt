@@ -3,14 +3,8 @@ use Rattle.std.specs.Prelude.{All, Contains}
 use Rattle.std.proofs.lemmas.List.{length-map}
 use Rattle.cl_model.specs.declared.model.SystemModel.{SystemModel}
 use Rattle.cl_runs.specs.Requirements.{requirement_at}
-use Rattle.cl_analyse.specs.Verdicts.{verdict_at, verdict_of}
-use Rattle.cl_analyse.specs.ChainAnswers.{chain_answer_of}
-use Rattle.cl_analyse.specs.declared.findings.Findings.{Findings}
-use Rattle.cl_analyse.specs.Findings.{AreFindings}
-use Rattle.cl_incr.specs.declared.news.FoundChain.{FoundChain}
-use Rattle.cl_incr.specs.Touched.{KeepsChains}
-use Rattle.cl_incr.specs.Inner.News.{chains_found}
-use Rattle.cl_incr.specs.Inner.Put.{ArePut}
+use Rattle.cl_analyse.specs.{Verdicts.{verdict_at, verdict_of}, ChainAnswers.chain_answer_of, declared.findings.Findings.Findings, Findings.AreFindings}
+use Rattle.cl_incr.specs.{declared.news.FoundChain.FoundChain, Touched.KeepsChains, Inner.{News.chains_found, Put.ArePut}}
 use Rattle.cl_incr.proofs.NewFindings.{chains_right, exacts_right, other_verdicts}
 use Rattle.cl_incr.proofs.put.put_news.Goals as goal
 

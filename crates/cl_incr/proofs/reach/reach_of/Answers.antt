@@ -1,9 +1,7 @@
 use Rattle.std.proofs.Common.{map, ap, ◌∙◌, arith}
-use Rattle.cl_model.specs.declared.changes.TaskPriority.{TaskPriority}
-use Rattle.cl_model.specs.ByNumber.{core_of}
-use Rattle.cl_incr.proofs.Beside.{added_is, dropped_known, moves_after_adding, moves_after_dropping, adds_after_adding, drops_after_dropping}
-use Rattle.cl_incr.proofs.ChangeTouches.{range_touches, whole_touches, deadline_touches, access_touches, move_touches, priorities_made, same_tasks, kinds_touch, nothing_touches}
-use Rattle.cl_incr.proofs.OtherRequirements.{reaches_requirements}
+use Rattle.cl_model.specs.{declared.changes.TaskPriority.TaskPriority, ByNumber.core_of}
+use Rattle.cl_incr.proofs.{Beside.{added_is, dropped_known, moves_after_adding, moves_after_dropping, adds_after_adding, drops_after_dropping}, ChangeTouches.{range_touches, whole_touches, deadline_touches, access_touches, move_touches, priorities_made, same_tasks, kinds_touch}}
+use Rattle.cl_incr.proofs.{ChangeTouches.nothing_touches, OtherRequirements.reaches_requirements}
 use Rattle.cl_incr.proofs.reach.reach_of.Goals as goal
 
 -- ---- runnables and tasks

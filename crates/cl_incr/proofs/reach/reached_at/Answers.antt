@@ -1,6 +1,5 @@
 use Rattle.std.proofs.Common.{List, ℕ, ◌∷◌, [], ◌++◌, sym, ap, ◌∙◌, subst}
-use Rattle.cl_incr.specs.declared.shift.Shift.TheVariants.{At}
-use Rattle.cl_incr.specs.Inner.Reach.{ReachesTasks}
+use Rattle.cl_incr.specs.{declared.shift.Shift.TheVariants.At, Inner.Reach.ReachesTasks}
 use Rattle.cl_incr.proofs.reach.reached_at.Goals as goal
 
 pub returns : goal.returns

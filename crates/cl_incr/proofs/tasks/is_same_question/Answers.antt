@@ -1,5 +1,4 @@
-use Rattle.cl_runs.specs.SystemOf.{system_of}
-use Rattle.cl_runs.specs.TaskTiming.{timing_at}
+use Rattle.cl_runs.specs.{SystemOf.system_of, TaskTiming.timing_at}
 use Rattle.cl_incr.proofs.SameTasks.{question_decides}
 use Rattle.cl_incr.proofs.tasks.is_same_question.Goals as goal
 

@@ -1,6 +1,5 @@
 use Rattle.std.proofs.Common.{List, length, get_or, sym, ap, ◌∙◌, arith}
-use Rattle.cl_model.specs.declared.task.TaskDef.{TaskDef}
-use Rattle.cl_model.specs.ByNumber.{task_named}
+use Rattle.cl_model.specs.{declared.task.TaskDef.TaskDef, ByNumber.task_named}
 use Rattle.cl_bound.specs.declared.answer.TaskAnswer.{TaskAnswer}
 use Rattle.cl_incr.proofs.KeptAnswers.{answer_count, kept_answer, new_task, other_question}
 use Rattle.cl_incr.proofs.tasks.kept_answer.Goals as goal

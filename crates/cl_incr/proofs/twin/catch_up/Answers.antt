@@ -1,8 +1,6 @@
 use Rattle.std.proofs.Common.{◌≡◌, List, get_or, ap, ◌∙◌, arith}
 use Rattle.std.proofs.lemmas.List.{length-set, get_or_default}
-use Rattle.cl_bound.specs.declared.answer.TaskAnswer.{TaskAnswer}
-use Rattle.cl_bound.specs.declared.answer.TaskAnswer.TheVariants.{Late}
-use Rattle.cl_bound.specs.Answers.{answer_at}
+use Rattle.cl_bound.specs.{declared.answer.TaskAnswer.{TaskAnswer, TheVariants.Late}, Answers.answer_at}
 use Rattle.cl_incr.proofs.Waiting.{all_ahead, item_next, all_items}
 use Rattle.cl_incr.proofs.twin.catch_up.Goals as goal
 

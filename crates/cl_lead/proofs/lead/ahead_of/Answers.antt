@@ -2,11 +2,9 @@ use Rattle.std.proofs.Common.{◌∙◌, arith}
 use Rattle.std.specs.Prelude.{sum_by}
 use Rattle.cl_runs.specs.SystemOf.{system_of}
 use Rattle.cl_cycle.specs.Cycles.{is_one_of, in_phase_above}
-use Rattle.cl_cycle.proofs.CycleLengths.{cycle_short}
-use Rattle.cl_cycle.proofs.GatheredWork.{deadline_few}
+use Rattle.cl_cycle.proofs.{CycleLengths.cycle_short, GatheredWork.deadline_few}
 use Rattle.cl_lead.specs.Inner.Sure.{sure_time}
-use Rattle.cl_lead.proofs.SureTasks.{work_is}
-use Rattle.cl_lead.proofs.SureAhead.{put_together}
+use Rattle.cl_lead.proofs.{SureTasks.work_is, SureAhead.put_together}
 use Rattle.cl_lead.proofs.lead.ahead_of.Goals as goal
 
 pub returns-clause-in_range : goal.returns-clause-in_range

@@ -5,9 +5,8 @@ use Rattle.std.proofs.lemmas.List.Elements.{All-push}
 use Rattle.cl_model.specs.ByNumber.{core_of, tasks_of_core}
 use Rattle.cl_model.proofs.CoreTasks.{few_tasks}
 use Rattle.cl_lead.specs.Inner.Sure.{time_if, counted_time, IsSureTaskInRange}
-use Rattle.cl_lead.proofs.SureTasks.{one_more, none_more, not_more}
+use Rattle.cl_lead.proofs.{SureTasks.{one_more, none_more, not_more}, lead.all_sure.Goals.{then-is_sure+in-Some, then-is_sure+in_default, else-is_sure}}
 use Rattle.cl_lead.proofs.lead.all_sure.Goals as goal
-use Rattle.cl_lead.proofs.lead.all_sure.Goals.{then-is_sure+in-Some, then-is_sure+in_default, else-is_sure}
 
 pub push-requires : goal.push-requires
 push-requires c =

@@ -1,6 +1,5 @@
 use Rattle.std.proofs.Common.{sym, ◌∙◌, subst}
-use Rattle.cl_model.specs.Ranges.{IsKindInRange}
-use Rattle.cl_model.specs.Timing.{IsKindOrdered}
+use Rattle.cl_model.specs.{Ranges.IsKindInRange, Timing.IsKindOrdered}
 use Rattle.cl_model.proofs.ValidTasks.{kind_in_range, kind_ordered}
 use Rattle.cl_lead.proofs.SureTasks.{periodic_in_range}
 use Rattle.cl_lead.proofs.lead.sure_task.Goals as goal

@@ -1,9 +1,6 @@
 use Rattle.std.proofs.Common.{◌≡◌, ◌++◌, Option, Some, sym, subst}
 use Rattle.std.specs.Prelude.{OnOk}
-use Rattle.cl_model.specs.declared.model.SystemModel.{SystemModel}
-use Rattle.cl_model.specs.declared.model_fault.ModelFault.{ModelFault}
-use Rattle.cl_model.specs.Answers.{IsFaultOf}
-use Rattle.cl_model.specs.Refusals.{first}
+use Rattle.cl_model.specs.{declared.{model.SystemModel.SystemModel, model_fault.ModelFault.ModelFault}, Answers.IsFaultOf, Refusals.first}
 use Rattle.cl_edit.specs.Edited.{edit_checks, with_edit}
 use Rattle.cl_advice.specs.OfEdits.{edit_advice_text}
 use Rattle.cl_lists.proofs.MadeModels.{made_where_none, none_where_refused}

@@ -1,7 +1,6 @@
 use Rattle.cl_advice.proofs.Pieces.{two_pieces}
 use Rattle.cl_edit.specs.declared.version.Version.TheVariants.{Two}
-use Rattle.cl_lists.specs.BadLines.{line_found}
-use Rattle.cl_lists.specs.RefusedEdits.{mend_by_code, refused_edit_text}
+use Rattle.cl_lists.specs.{BadLines.line_found, RefusedEdits.{mend_by_code, refused_edit_text}}
 use Rattle.cl_lists.proofs.refused_edit.put_refused_edit.Goals as goal
 
 pub returns : goal.returns

@@ -1,16 +1,12 @@
 use Rattle.std.proofs.Common.{◌≡◌, ℕ, ◌+◌, ◌<◌, List, None, length, get_or, set, sym, ap, ◌∙◌, subst, arith}
 use Rattle.std.proofs.lemmas.List.{get_or_default}
-use Rattle.cl_model.specs.declared.chain.RequirementDef.{RequirementDef}
-use Rattle.cl_model.specs.declared.model.SystemModel.{SystemModel}
+use Rattle.cl_model.specs.declared.{chain.RequirementDef.RequirementDef, model.SystemModel.SystemModel}
 use Rattle.cl_runs.specs.Requirements.{no_requirement, requirement_at, required_chain}
-use Rattle.cl_analyse.specs.declared.findings.Verdict.TheVariants.{Met, Unshown}
-use Rattle.cl_analyse.specs.Verdicts.{is_met}
+use Rattle.cl_analyse.specs.{declared.findings.Verdict.TheVariants.{Met, Unshown}, Verdicts.is_met}
 use Rattle.cl_tight.proofs.TightLists.{required_known}
-use Rattle.cl_margin.specs.declared.allowed.Allowed.{Allowed}
-use Rattle.cl_margin.specs.Inner.Allowing.{with_most, allowed_at}
-use Rattle.cl_margin.proofs.AllowedBounds.{AreAllowedBy, met_more, unmet_more, all_allowed}
+use Rattle.cl_margin.specs.{declared.allowed.Allowed.Allowed, Inner.Allowing.{with_most, allowed_at}}
+use Rattle.cl_margin.proofs.{AllowedBounds.{AreAllowedBy, met_more, unmet_more, all_allowed}, allowed.allowed_of.Goals.{then-is_met, else-is_met}}
 use Rattle.cl_margin.proofs.allowed.allowed_of.Goals as goal
-use Rattle.cl_margin.proofs.allowed.allowed_of.Goals.{then-is_met, else-is_met}
 
 pub narrow-requires : goal.narrow-requires
 narrow-requires c =

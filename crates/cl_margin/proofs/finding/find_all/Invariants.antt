@@ -1,8 +1,6 @@
 use Rattle.std.proofs.Common.{ℕ, List}
 use Rattle.cl_model.specs.declared.model.SystemModel.{SystemModel}
-use Rattle.cl_margin.specs.declared.answer.Margin.{Margin}
-use Rattle.cl_margin.specs.declared.trial.Trial.{Trial}
-use Rattle.cl_margin.specs.Inner.Trials.{IsTrialOf}
+use Rattle.cl_margin.specs.{declared.{answer.Margin.Margin, trial.Trial.Trial}, Inner.Trials.IsTrialOf}
 use Rattle.cl_margin.proofs.AllMargins.{AreMarginsBelow}
 use Rattle.cl_margin.proofs.finding.find_all.Given as goal
 

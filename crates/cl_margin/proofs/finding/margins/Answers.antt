@@ -2,8 +2,7 @@ use Rattle.std.proofs.Common.{length, ap, ◌∙◌}
 use Rattle.std.proofs.lemmas.Result.{IfOk-weaker}
 use Rattle.cl_tight.specs.declared.findings.TightFindings.{TightFindings}
 use Rattle.cl_margin.specs.declared.whose.Whose.TheVariants.{EveryTask, OneTask}
-use Rattle.cl_margin.proofs.MetByBounds.{verdicts_found}
-use Rattle.cl_margin.proofs.StaysMet.{kept_below}
+use Rattle.cl_margin.proofs.{MetByBounds.verdicts_found, StaysMet.kept_below}
 use Rattle.cl_margin.proofs.finding.margins.Goals as goal
 
 pub allowed_of-requires : goal.allowed_of-requires

@@ -1,6 +1,5 @@
 use Rattle.std.proofs.Common.{sym, subst, arith}
-use Rattle.cl_model.specs.declared.model.SystemModel.{SystemModel}
-use Rattle.cl_model.specs.Ranges.{IsInRange}
+use Rattle.cl_model.specs.{declared.model.SystemModel.SystemModel, Ranges.IsInRange}
 use Rattle.cl_margin.specs.Grown.{grown}
 use Rattle.cl_margin.proofs.AskedItems.{trial_itself, trial_kept}
 use Rattle.cl_margin.proofs.searching.first_late.Goals as goal

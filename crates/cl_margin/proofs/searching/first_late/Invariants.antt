@@ -1,8 +1,6 @@
 use Rattle.std.proofs.Common.{ℕ, ◌<◌}
 use Rattle.cl_model.specs.declared.model.SystemModel.{SystemModel}
-use Rattle.cl_margin.specs.declared.trial.Trial.{Trial}
-use Rattle.cl_margin.specs.Inner.Searches.{KeepsTask}
-use Rattle.cl_margin.specs.Inner.Trials.{IsTrialOf}
+use Rattle.cl_margin.specs.{declared.trial.Trial.Trial, Inner.{Searches.KeepsTask, Trials.IsTrialOf}}
 use Rattle.cl_margin.proofs.searching.first_late.Given as goal
 
 -- no task below a number is newly late

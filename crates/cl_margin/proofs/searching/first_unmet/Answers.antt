@@ -1,13 +1,8 @@
 use Rattle.std.proofs.Common.{ℕ, length, sym, ap, subst, arith}
-use Rattle.cl_model.specs.declared.model.SystemModel.{SystemModel}
-use Rattle.cl_model.specs.Ranges.{IsInRange}
-use Rattle.cl_tight.specs.declared.findings.TightFindings.{TightFindings}
-use Rattle.cl_tight.specs.TightFindings.{tight_findings_of}
-use Rattle.cl_margin.specs.Grown.{grown}
-use Rattle.cl_margin.specs.Margins.{is_met_requirement}
-use Rattle.cl_margin.proofs.AskedItems.{trial_itself, trial_kept}
-use Rattle.cl_margin.proofs.MetByBounds.{verdicts_found}
-use Rattle.cl_margin.proofs.NewlyBroken.{first_where, broken_in}
+use Rattle.cl_model.specs.{declared.model.SystemModel.SystemModel, Ranges.IsInRange}
+use Rattle.cl_tight.specs.{declared.findings.TightFindings.TightFindings, TightFindings.tight_findings_of}
+use Rattle.cl_margin.specs.{Grown.grown, Margins.is_met_requirement}
+use Rattle.cl_margin.proofs.{AskedItems.{trial_itself, trial_kept}, MetByBounds.verdicts_found, NewlyBroken.{first_where, broken_in}}
 use Rattle.cl_margin.proofs.searching.first_unmet.Goals as goal
 
 pub loop-requirement-init : goal.loop-requirement-init

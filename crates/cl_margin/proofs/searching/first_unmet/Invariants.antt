@@ -1,9 +1,7 @@
 use Rattle.std.proofs.Common.{◌≡◌, ℕ, ◌<◌, true}
 use Rattle.cl_model.specs.declared.model.SystemModel.{SystemModel}
 use Rattle.cl_tight.specs.TightFindings.{tight_findings_of}
-use Rattle.cl_margin.specs.declared.trial.Trial.{Trial}
-use Rattle.cl_margin.specs.Margins.{is_met_requirement}
-use Rattle.cl_margin.specs.Inner.Trials.{IsTrialOf}
+use Rattle.cl_margin.specs.{declared.trial.Trial.Trial, Margins.is_met_requirement, Inner.Trials.IsTrialOf}
 use Rattle.cl_margin.proofs.searching.first_unmet.Given as goal
 
 -- no requirement below a number is newly unmet

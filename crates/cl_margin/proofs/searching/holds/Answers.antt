@@ -1,6 +1,5 @@
 use Rattle.std.proofs.Common.{sym, ◌∙◌, subst, arith}
-use Rattle.cl_margin.specs.declared.searching.Item.{Item}
-use Rattle.cl_margin.specs.Inner.Searches.{FitsAnswer, FitsItem}
+use Rattle.cl_margin.specs.{declared.searching.Item.Item, Inner.Searches.{FitsAnswer, FitsItem}}
 use Rattle.cl_margin.proofs.AskedItems.{bounds_fit}
 use Rattle.cl_margin.proofs.searching.holds.Goals as goal
 

@@ -2,8 +2,7 @@ use Rattle.std.proofs.Common.{length, sym, ap, ◌∙◌, arith}
 use Rattle.std.proofs.lemmas.Result.{IfOk-weaker}
 use Rattle.cl_tight.specs.declared.findings.TightFindings.{TightFindings}
 use Rattle.cl_margin.specs.Margins.{is_met_task}
-use Rattle.cl_margin.proofs.MetByBounds.{tasks_found}
-use Rattle.cl_margin.proofs.NewlyBroken.{late_where, never_broken, task_kept, task_known}
+use Rattle.cl_margin.proofs.{MetByBounds.tasks_found, NewlyBroken.{late_where, never_broken, task_kept, task_known}}
 use Rattle.cl_margin.proofs.searching.is_newly_late.Goals as goal
 
 pub has_task-requires : goal.has_task-requires

@@ -2,8 +2,7 @@ use Rattle.std.proofs.Common.{length, sym, ap, ◌∙◌, arith}
 use Rattle.std.proofs.lemmas.Result.{IfOk-weaker}
 use Rattle.cl_tight.specs.declared.findings.TightFindings.{TightFindings}
 use Rattle.cl_margin.specs.Margins.{is_met_requirement}
-use Rattle.cl_margin.proofs.MetByBounds.{verdicts_found}
-use Rattle.cl_margin.proofs.NewlyBroken.{broken_where, never_broken}
+use Rattle.cl_margin.proofs.{MetByBounds.verdicts_found, NewlyBroken.{broken_where, never_broken}}
 use Rattle.cl_margin.proofs.searching.is_newly_over.Goals as goal
 
 pub has_requirement-requires : goal.has_requirement-requires

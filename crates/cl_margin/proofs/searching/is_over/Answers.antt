@@ -3,8 +3,7 @@ use Rattle.cl_model.specs.declared.model.SystemModel.{SystemModel}
 use Rattle.cl_runs.specs.Requirements.{no_requirement, required_chain}
 use Rattle.cl_tight.proofs.TightLists.{required_known}
 use Rattle.cl_margin.specs.Inner.Touched.{touches_chain}
-use Rattle.cl_margin.proofs.MetByBounds.{is_within}
-use Rattle.cl_margin.proofs.NewlyBroken.{over_where, requirement_read, requirement_kept, chain_known, found_within}
+use Rattle.cl_margin.proofs.{MetByBounds.is_within, NewlyBroken.{over_where, requirement_read, requirement_kept, chain_known, found_within}}
 use Rattle.cl_margin.proofs.searching.is_over.Goals as goal
 
 pub touches_chain-requires-clause-chain : goal.touches_chain-requires-clause-chain

@@ -1,7 +1,6 @@
 use Rattle.std.proofs.Common.{◌≡◌, ℕ, ◌*◌, ◌≤◌, List, take}
 use Rattle.std.specs.Prelude.{sum_by}
-use Rattle.cl_model.specs.declared.limits.TheConstants.{MOST_TICKS}
-use Rattle.cl_model.specs.declared.task.RunnableDef.{RunnableDef}
+use Rattle.cl_model.specs.declared.{limits.TheConstants.MOST_TICKS, task.RunnableDef.RunnableDef}
 use Rattle.cl_margin.specs.Grown.{grown_greatest}
 use Rattle.cl_margin.proofs.whose.grown_time.Given as goal
 

@@ -1,5 +1,4 @@
-use Rattle.cl_model.proofs.StepFacts.{table_paired}
-use Rattle.cl_model.proofs.GroupFacts.{steps_known_at, groups_more}
+use Rattle.cl_model.proofs.{StepFacts.table_paired, GroupFacts.{steps_known_at, groups_more}}
 use Rattle.cl_model.proofs.groups.groups_of_chains.Goals as goal
 
 pub groups_of_chain-requires-clause-known : goal.groups_of_chain-requires-clause-known

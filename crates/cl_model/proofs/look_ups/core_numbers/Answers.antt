@@ -1,5 +1,4 @@
-use Rattle.cl_model.proofs.NamePlaces.{found_somewhere}
-use Rattle.cl_model.proofs.NamesKnown.{core_known_at}
+use Rattle.cl_model.proofs.{NamePlaces.found_somewhere, NamesKnown.core_known_at}
 use Rattle.cl_model.proofs.look_ups.core_numbers.Goals as goal
 
 pub unreachable-requires : goal.unreachable-requires

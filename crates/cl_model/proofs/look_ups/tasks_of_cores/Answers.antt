@@ -2,8 +2,7 @@ use Rattle.std.proofs.Common.{◌<◌, length, ap, arith}
 use Rattle.std.proofs.lemmas.List.{length-map}
 use Rattle.std.proofs.lemmas.List.FromFn.{length-map-range_with_len}
 use Rattle.cl_model.specs.ByNumber.{core_number, tasks_of_core_below}
-use Rattle.cl_model.proofs.NamesKnown.{core_within}
-use Rattle.cl_model.proofs.CoreTasks.{none_yet, lists_more, number_kept}
+use Rattle.cl_model.proofs.{NamesKnown.core_within, CoreTasks.{none_yet, lists_more, number_kept}}
 use Rattle.cl_model.proofs.look_ups.tasks_of_cores.Goals as goal
 
 pub loop-task-init : goal.loop-task-init

@@ -1,8 +1,7 @@
 use Rattle.std.proofs.Common.{ℕ, set, sym, ap, ◌∙◌, arith}
 use Rattle.std.proofs.lemmas.List.Edits.{map_over_more}
 use Rattle.std.proofs.lemmas.Option.{get_or_from_slice_get}
-use Rattle.cl_model.specs.declared.group.Group.{Group}
-use Rattle.cl_model.specs.TaskNumbers.{group_without}
+use Rattle.cl_model.specs.{declared.group.Group.Group, TaskNumbers.group_without}
 use Rattle.cl_model.proofs.task_numbers.renumber_groups.Goals as goal
 
 pub loop-place-preserved : goal.loop-place-preserved

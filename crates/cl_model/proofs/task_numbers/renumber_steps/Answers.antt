@@ -1,8 +1,7 @@
 use Rattle.std.proofs.Common.{ℕ, ◌<◌, length, get_or, set, ap, ◌∙◌, arith}
 use Rattle.std.proofs.lemmas.List.{get_or_default}
 use Rattle.std.proofs.lemmas.List.Edits.{map_over_more}
-use Rattle.cl_model.specs.declared.group.Step.{Step}
-use Rattle.cl_model.specs.TaskNumbers.{step_without}
+use Rattle.cl_model.specs.{declared.group.Step.Step, TaskNumbers.step_without}
 use Rattle.cl_model.proofs.task_numbers.renumber_steps.Goals as goal
 
 pub loop-step-preserved : goal.loop-step-preserved

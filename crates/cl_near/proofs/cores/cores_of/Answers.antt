@@ -2,10 +2,7 @@ use Rattle.std.proofs.Common.{◌≡◌, ℕ, ◌+◌, ◌<◌, Bool, true, fals
 use Rattle.std.proofs.lemmas.Bool.{cases_eq}
 use Rattle.std.proofs.lemmas.Grind.{get_or-set_at}
 use Rattle.std.proofs.lemmas.List.{length-set}
-use Rattle.cl_model.specs.declared.group.Group.{Group}
-use Rattle.cl_model.specs.declared.model.SystemModel.{SystemModel}
-use Rattle.cl_model.specs.ByNumber.{core_of}
-use Rattle.cl_model.specs.Groups.{no_group, group_at}
+use Rattle.cl_model.specs.{declared.{group.Group.Group, model.SystemModel.SystemModel}, ByNumber.core_of, Groups.{no_group, group_at}}
 use Rattle.cl_run_data.specs.Parts.{is_among}
 use Rattle.cl_near.specs.Inner.Cores.{AreMarked}
 use Rattle.cl_near.proofs.cores.cores_of.Goals as goal

@@ -1,6 +1,5 @@
 use Rattle.std.proofs.Common.{◌≡◌, Bool, true, List, sym, subst}
-use Rattle.cl_runs.specs.SystemOf.{system_of}
-use Rattle.cl_runs.specs.TaskTiming.{timing_at}
+use Rattle.cl_runs.specs.{SystemOf.system_of, TaskTiming.timing_at}
 use Rattle.cl_run_data.specs.Parts.{is_among}
 use Rattle.cl_near.proofs.MarkedCores.{marked_is_among}
 use Rattle.cl_near.proofs.task_plan.plan_task.Goals as goal

@@ -1,8 +1,5 @@
 use Rattle.std.proofs.Common.{◌≡◌, ℕ, Option, List, length, ap, subst, ◌∙◌, arith}
-use Rattle.cl_runs.specs.declared.job.Job.{Job}
-use Rattle.cl_runs.specs.declared.job.JobTable.{JobTable}
-use Rattle.cl_runs.specs.Table.{table_jobs}
-use Rattle.cl_runs.specs.Run.{jobs_of}
+use Rattle.cl_runs.specs.{declared.job.{Job.Job, JobTable.JobTable}, Table.table_jobs, Run.jobs_of}
 use Rattle.cl_runs.proofs.ModelSystem.{count_is}
 use Rattle.cl_near.specs.Inner.SeenJobs.{IsSeenOfJobs}
 use Rattle.cl_near.proofs.SeenTasks.{seen_is_so}

@@ -1,8 +1,7 @@
 use Rattle.std.proofs.Common.{◌<◌, inl, inr, length, get_or, subst, arith}
 use Rattle.std.proofs.lemmas.List.{get_or_default}
 use Rattle.std.specs.Prelude.{None}
-use Rattle.cl_runs.specs.declared.job.Job.{Job}
-use Rattle.cl_runs.specs.Table.{no_job}
+use Rattle.cl_runs.specs.{declared.job.Job.Job, Table.no_job}
 use Rattle.cl_near.specs.Inner.SeenJobs.{HasTaken}
 use Rattle.cl_near.proofs.task_seen.seen_of_jobs.Goals as goal
 

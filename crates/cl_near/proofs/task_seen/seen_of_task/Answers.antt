@@ -1,6 +1,5 @@
 use Rattle.std.proofs.Common.{List, Bool, ap, ◌∙◌, arith}
-use Rattle.cl_runs.specs.TaskTiming.{timing_at}
-use Rattle.cl_runs.specs.SystemOf.{system_of}
+use Rattle.cl_runs.specs.{TaskTiming.timing_at, SystemOf.system_of}
 use Rattle.cl_runs.proofs.ModelSystem.{count_is, system_sound}
 use Rattle.cl_run_data.specs.Parts.{is_among}
 use Rattle.cl_run_data.proofs.ShownTasks.{part_shows_task}

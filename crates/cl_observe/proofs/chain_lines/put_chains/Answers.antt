@@ -1,6 +1,5 @@
 use Rattle.std.proofs.Common.{◌≡◌, ◌<◌, length, subst, arith}
-use Rattle.cl_analyse.specs.declared.findings.ChainAnswer.{ChainAnswer}
-use Rattle.cl_analyse.specs.ChainAnswers.{chain_answer_at}
+use Rattle.cl_analyse.specs.{declared.findings.ChainAnswer.ChainAnswer, ChainAnswers.chain_answer_at}
 use Rattle.cl_report.proofs.ReportLines.{chain_answer_in}
 use Rattle.cl_observe.specs.Observed.{GoesOnWith, IsMadeOf, IsChainText}
 use Rattle.cl_observe.proofs.MadeTexts.{none_made, more_made}

@@ -3,8 +3,7 @@ use Rattle.std.specs.Prelude.{codes}
 use Rattle.std.proofs.lemmas.Result.{on_ok_weaker}
 use Rattle.cl_text.specs.Line.{line}
 use Rattle.cl_runs.specs.SystemOf.{system_of}
-use Rattle.cl_check.specs.declared.run_fault.RunFault.{RunFault}
-use Rattle.cl_check.specs.Legality.{IsRunFaultOf}
+use Rattle.cl_check.specs.{declared.run_fault.RunFault.RunFault, Legality.IsRunFaultOf}
 use Rattle.cl_observe.specs.Rules.{illegal_line}
 use Rattle.cl_observe.proofs.rules.put_legality.Goals as goal
 

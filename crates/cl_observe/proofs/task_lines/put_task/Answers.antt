@@ -1,7 +1,6 @@
 use Rattle.std.proofs.Common.{length, ap, ◌∙◌, arith}
 use Rattle.std.proofs.lemmas.Result.{on_ok_weaker}
-use Rattle.cl_runs.specs.declared.job.JobTable.{JobTable}
-use Rattle.cl_runs.specs.Table.{table_jobs}
+use Rattle.cl_runs.specs.{declared.job.JobTable.JobTable, Table.table_jobs}
 use Rattle.cl_runs.proofs.ModelSystem.{count_is}
 use Rattle.cl_observe.proofs.PutTexts.{task_put}
 use Rattle.cl_observe.proofs.task_lines.put_task.Goals as goal

@@ -1,6 +1,5 @@
 use Rattle.std.proofs.Common.{◌≡◌, ◌<◌, length, subst, arith}
-use Rattle.cl_bound.specs.declared.answer.TaskAnswer.{TaskAnswer}
-use Rattle.cl_bound.specs.Answers.{answer_at}
+use Rattle.cl_bound.specs.{declared.answer.TaskAnswer.TaskAnswer, Answers.answer_at}
 use Rattle.cl_report.proofs.ReportLines.{task_answer}
 use Rattle.cl_observe.specs.Observed.{GoesOnWith, IsMadeOf, IsTaskText}
 use Rattle.cl_observe.proofs.MadeTexts.{none_made, more_made}

@@ -3,9 +3,7 @@ use Rattle.std.specs.Prelude.{OnOk, codes}
 use Rattle.std.proofs.lemmas.List.{append_assoc, get_or_default}
 use Rattle.std.proofs.lemmas.Result.{IfOk-equal}
 use Rattle.cl_text.specs.Line.{line}
-use Rattle.cl_model.specs.declared.task.TaskDef.{TaskDef}
-use Rattle.cl_model.specs.declared.task.RunnableDef.{RunnableDef}
-use Rattle.cl_model.specs.ByNumber.{task_at, runnable_at, no_runnable}
+use Rattle.cl_model.specs.{declared.task.{TaskDef.TaskDef, RunnableDef.RunnableDef}, ByNumber.{task_at, runnable_at, no_runnable}}
 use Rattle.cl_observe.specs.Observed.{range_words, runnable_line}
 use Rattle.cl_observe.proofs.task_lines.put_time.Goals as goal
 

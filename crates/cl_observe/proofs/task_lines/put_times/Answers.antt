@@ -1,6 +1,5 @@
 use Rattle.cl_observe.specs.Observed.{IsTimeLine}
-use Rattle.cl_observe.proofs.MadeTexts.{none_made, more_made}
-use Rattle.cl_observe.proofs.PutTexts.{time_put}
+use Rattle.cl_observe.proofs.{MadeTexts.{none_made, more_made}, PutTexts.time_put}
 use Rattle.cl_observe.proofs.task_lines.put_times.Goals as goal
 
 pub loop-place-init : goal.loop-place-init

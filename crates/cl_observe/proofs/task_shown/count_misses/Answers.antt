@@ -1,10 +1,8 @@
 use Rattle.std.proofs.Common.{ℕ, ◌+◌, ◌<◌, length, cond, ap, ◌∙◌, arith}
 use Rattle.std.proofs.lemmas.List.{get_or_default}
-use Rattle.cl_runs.specs.declared.job.Job.{Job}
-use Rattle.cl_runs.specs.Table.{no_job, job_at}
+use Rattle.cl_runs.specs.{declared.job.Job.Job, Table.{no_job, job_at}}
 use Rattle.cl_observe.specs.Inner.JobLists.{finish_at, is_unfinished, IsJobUnfinished}
-use Rattle.cl_observe.proofs.OneValue.{counts_few}
-use Rattle.cl_observe.proofs.ListedJobs.{once_or_not, at_most_one, one_counted}
+use Rattle.cl_observe.proofs.{OneValue.counts_few, ListedJobs.{once_or_not, at_most_one, one_counted}}
 use Rattle.cl_observe.proofs.task_shown.count_misses.Goals as goal
 
 pub overflow_add-count : goal.overflow_add-count

@@ -1,5 +1,4 @@
-use Rattle.cl_observe.specs.Values.{CountsBelow}
-use Rattle.cl_observe.specs.Inner.JobLists.{IsJobUnfinished}
+use Rattle.cl_observe.specs.{Values.CountsBelow, Inner.JobLists.IsJobUnfinished}
 use Rattle.cl_observe.proofs.task_shown.count_misses.Given as goal
 
 -- those below the place are counted

@@ -2,11 +2,9 @@ use Rattle.std.proofs.Common.{◌≡◌, ◌-◌, length, ap, subst, arith}
 use Rattle.std.specs.Prelude.{IfOk}
 use Rattle.cl_model.specs.declared.task.TaskDef.{TaskDef}
 use Rattle.cl_model.proofs.ValidTasks.{has_runnable}
-use Rattle.cl_runs.specs.TaskTiming.{timing_at}
-use Rattle.cl_runs.specs.SystemOf.{system_of}
+use Rattle.cl_runs.specs.{TaskTiming.timing_at, SystemOf.system_of}
 use Rattle.cl_runs.proofs.ModelSystem.{count_is, range_count_is}
-use Rattle.cl_check.specs.declared.job_ends.End.TheVariants.{Finish}
-use Rattle.cl_check.specs.JobMoments.{AreEndsOfJobs}
+use Rattle.cl_check.specs.{declared.job_ends.End.TheVariants.Finish, JobMoments.AreEndsOfJobs}
 use Rattle.cl_observe.proofs.task_shown.finishes.Goals as goal
 
 pub overflow_sub-last : goal.overflow_sub-last

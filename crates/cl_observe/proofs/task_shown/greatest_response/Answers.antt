@@ -1,11 +1,7 @@
 use Rattle.std.proofs.Common.{◌+◌, ◌<◌, Option, length, sym, ap, subst, ◌∙◌, arith}
 use Rattle.std.proofs.lemmas.List.{get_or_default}
-use Rattle.cl_runs.specs.declared.job.Job.{Job}
-use Rattle.cl_runs.specs.Table.{no_job}
-use Rattle.cl_observe.specs.declared.values.GreatestResponse.{GreatestResponse}
-use Rattle.cl_observe.specs.Values.{IsGreatestResponseOf}
-use Rattle.cl_observe.specs.Inner.Choices.{or_finish}
-use Rattle.cl_observe.specs.Inner.JobLists.{HasListedResponse, HasBelow, finish_at}
+use Rattle.cl_runs.specs.{declared.job.Job.Job, Table.no_job}
+use Rattle.cl_observe.specs.{declared.values.GreatestResponse.GreatestResponse, Values.IsGreatestResponseOf, Inner.{Choices.or_finish, JobLists.{HasListedResponse, HasBelow, finish_at}}}
 use Rattle.cl_observe.proofs.ListedJobs.{none_below, response_next, responses_all}
 use Rattle.cl_observe.proofs.task_shown.greatest_response.Goals as goal
 

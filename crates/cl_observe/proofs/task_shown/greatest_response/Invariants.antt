@@ -1,5 +1,4 @@
-use Rattle.cl_observe.specs.Values.{IsGreatestResponseOf}
-use Rattle.cl_observe.specs.Inner.JobLists.{HasListedResponse, HasBelow}
+use Rattle.cl_observe.specs.{Values.IsGreatestResponseOf, Inner.JobLists.{HasListedResponse, HasBelow}}
 use Rattle.cl_observe.proofs.task_shown.greatest_response.Given as goal
 
 -- it is the greatest of those below the place

@@ -1,12 +1,8 @@
 use Rattle.std.proofs.Common.{◌+◌, Some, sym, ap, subst, ◌∙◌, arith}
 use Rattle.std.specs.Prelude.{pos, ◌-ℤ◌}
 use Rattle.std.proofs.lemmas.List.{get_or_default}
-use Rattle.cl_runs.specs.declared.job.Job.{Job}
-use Rattle.cl_runs.specs.Table.{no_job}
-use Rattle.cl_observe.specs.declared.values.Spread.{Spread}
-use Rattle.cl_observe.specs.Values.{IsSpreadOf}
-use Rattle.cl_observe.specs.Inner.Choices.{or_number}
-use Rattle.cl_observe.specs.Inner.JobLists.{HasListedJitter, HasBelow}
+use Rattle.cl_runs.specs.{declared.job.Job.Job, Table.no_job}
+use Rattle.cl_observe.specs.{declared.values.Spread.Spread, Values.IsSpreadOf, Inner.{Choices.or_number, JobLists.{HasListedJitter, HasBelow}}}
 use Rattle.cl_observe.proofs.ListedJobs.{none_below, jitter_next, jitters_all}
 use Rattle.cl_observe.proofs.task_shown.jitters.Goals as goal
 

@@ -1,5 +1,4 @@
-use Rattle.cl_observe.specs.Values.{IsSpreadOf}
-use Rattle.cl_observe.specs.Inner.JobLists.{HasListedJitter, HasBelow}
+use Rattle.cl_observe.specs.{Values.IsSpreadOf, Inner.JobLists.{HasListedJitter, HasBelow}}
 use Rattle.cl_observe.proofs.task_shown.jitters.Given as goal
 
 -- these are the least and the greatest of those below the place

@@ -1,9 +1,5 @@
 use Rattle.std.proofs.Common.{◌≡◌, sym, ap, ◌∙◌, length, arith}
-use Rattle.cl_runs.specs.declared.job.JobTable.{JobTable}
-use Rattle.cl_runs.specs.SystemOf.{system_of}
-use Rattle.cl_runs.specs.Run.{jobs_of}
-use Rattle.cl_runs.specs.Table.{table_jobs}
-use Rattle.cl_runs.specs.TaskTiming.{Timing}
+use Rattle.cl_runs.specs.{declared.job.JobTable.JobTable, SystemOf.system_of, Run.jobs_of, Table.table_jobs, TaskTiming.Timing}
 use Rattle.cl_runs.proofs.ModelSystem.{timing_is, count_is}
 use Rattle.cl_observe.proofs.ShownTasks.{task_shown}
 use Rattle.cl_observe.proofs.task_shown.shown_task.Goals as goal

@@ -1,18 +1,10 @@
 use Rattle.std.proofs.Common.{◌≡◌, ℕ, ◌-◌, ◌<◌, Option, List, length, sym, ap, subst, ◌∙◌, arith}
 use Rattle.std.specs.Prelude.{All}
 use Rattle.std.proofs.lemmas.List.{get_or_default}
-use Rattle.cl_model.specs.declared.model.SystemModel.{SystemModel}
-use Rattle.cl_model.specs.declared.task.TaskDef.{TaskDef}
-use Rattle.cl_model.specs.ByNumber.{task_at}
-use Rattle.cl_runs.specs.declared.job.Job.{Job}
-use Rattle.cl_runs.specs.declared.job.JobTable.{JobTable}
-use Rattle.cl_runs.specs.Run.{Run, jobs_of, IsInForm}
-use Rattle.cl_runs.specs.SystemOf.{system_of}
-use Rattle.cl_runs.specs.Table.{no_job, table_jobs}
-use Rattle.cl_runs.specs.TaskTiming.{timing_at}
+use Rattle.cl_model.specs.{declared.{model.SystemModel.SystemModel, task.TaskDef.TaskDef}, ByNumber.task_at}
+use Rattle.cl_runs.specs.{declared.job.{Job.Job, JobTable.JobTable}, Run.{Run, jobs_of, IsInForm}, SystemOf.system_of, Table.{no_job, table_jobs}, TaskTiming.timing_at}
 use Rattle.cl_runs.proofs.ModelSystem.{count_is, range_count_is}
-use Rattle.cl_check.specs.declared.job_ends.End.TheVariants.{Finish}
-use Rattle.cl_check.specs.JobMoments.{AreEndsOfJobs}
+use Rattle.cl_check.specs.{declared.job_ends.End.TheVariants.Finish, JobMoments.AreEndsOfJobs}
 use Rattle.cl_observe.proofs.ShownTasks.{times_shown}
 use Rattle.cl_observe.proofs.task_shown.shown_time.Goals as goal
 

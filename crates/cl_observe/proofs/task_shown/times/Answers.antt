@@ -1,12 +1,8 @@
 use Rattle.std.proofs.Common.{◌≡◌, ℕ, ◌+◌, ◌<◌, Option, List, length, sym, ap, subst, ◌∙◌, arith}
 use Rattle.std.specs.Prelude.{slice_index}
 use Rattle.std.proofs.lemmas.List.{get_or_default}
-use Rattle.cl_runs.specs.declared.job.Job.{Job}
-use Rattle.cl_runs.specs.Table.{no_job, job_at}
-use Rattle.cl_observe.specs.declared.values.Spread.{Spread}
-use Rattle.cl_observe.specs.Values.{IsSpreadOf}
-use Rattle.cl_observe.specs.Inner.Choices.{or_time}
-use Rattle.cl_observe.specs.Inner.JobLists.{HasListedTime, HasBelow, finish_at}
+use Rattle.cl_runs.specs.{declared.job.Job.Job, Table.{no_job, job_at}}
+use Rattle.cl_observe.specs.{declared.values.Spread.Spread, Values.IsSpreadOf, Inner.{Choices.or_time, JobLists.{HasListedTime, HasBelow, finish_at}}}
 use Rattle.cl_observe.proofs.ListedJobs.{none_below, time_next, times_all}
 use Rattle.cl_observe.proofs.task_shown.times.Goals as goal
 

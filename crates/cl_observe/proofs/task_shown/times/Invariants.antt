@@ -1,5 +1,4 @@
-use Rattle.cl_observe.specs.Values.{IsSpreadOf}
-use Rattle.cl_observe.specs.Inner.JobLists.{HasListedTime, HasBelow}
+use Rattle.cl_observe.specs.{Values.IsSpreadOf, Inner.JobLists.{HasListedTime, HasBelow}}
 use Rattle.cl_observe.proofs.task_shown.times.Given as goal
 
 -- these are the least and the greatest of those of the jobs before this one

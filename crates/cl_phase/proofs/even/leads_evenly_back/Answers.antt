@@ -2,14 +2,9 @@ use Rattle.std.proofs.Common.{◌≡◌, ℕ, ◌+◌, ◌-◌, ◌*◌, ◌<◌
 use Rattle.std.specs.Prelude.{unsigned_abs}
 use Rattle.std.proofs.lemmas.Int.{ints}
 use Rattle.cl_model.specs.declared.limits.TheConstants.{MOST_TICKS}
-use Rattle.cl_stim.specs.Integers.{IsIntegerWithin}
-use Rattle.cl_stim.specs.Phase.{IsMoment}
-use Rattle.cl_phase.specs.Pace.{previous}
-use Rattle.cl_phase.specs.Walks.{pace_at, back}
-use Rattle.cl_phase.specs.Inner.Even.{AreEvenTurns}
-use Rattle.cl_phase.specs.Inner.Ranges.{FARTHEST_START}
-use Rattle.cl_phase.proofs.EvenHops.{back_to, back_begins, back_evenly, back_ends}
-use Rattle.cl_phase.proofs.WalkRanges.{HOP, unset, pace_here, lag_here, pace_in_range, lag_in_range, goes_on, given_back, comes_back, comes_before, leads_back}
+use Rattle.cl_stim.specs.{Integers.IsIntegerWithin, Phase.IsMoment}
+use Rattle.cl_phase.specs.{Pace.previous, Walks.{pace_at, back}, Inner.{Even.AreEvenTurns, Ranges.FARTHEST_START}}
+use Rattle.cl_phase.proofs.{EvenHops.{back_to, back_begins, back_evenly, back_ends}, WalkRanges.{HOP, unset, pace_here, lag_here, pace_in_range, lag_in_range, goes_on, given_back, comes_back, comes_before, leads_back}}
 use Rattle.cl_phase.proofs.even.leads_evenly_back.Goals as goal
 
 -- a number as code holds it

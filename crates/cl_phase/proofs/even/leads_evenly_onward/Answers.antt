@@ -2,13 +2,9 @@ use Rattle.std.proofs.Common.{◌≡◌, ℕ, ◌+◌, ◌-◌, ◌*◌, ◌<◌
 use Rattle.std.specs.Prelude.{unsigned_abs}
 use Rattle.std.proofs.lemmas.Int.{ints}
 use Rattle.cl_model.specs.declared.limits.TheConstants.{MOST_TICKS}
-use Rattle.cl_stim.specs.Integers.{IsIntegerWithin}
-use Rattle.cl_stim.specs.Phase.{IsMoment}
-use Rattle.cl_phase.specs.Walks.{pace_at, onward}
-use Rattle.cl_phase.specs.Inner.Even.{AreEvenTurns, LeadsEvenly}
-use Rattle.cl_phase.specs.Inner.Ranges.{FARTHEST_START}
-use Rattle.cl_phase.proofs.EvenHops.{onward_to, onward_begins, onward_evenly, onward_ends}
-use Rattle.cl_phase.proofs.WalkRanges.{HOP, unset, pace_here, lag_here, pace_in_range, lag_in_range, given_onward, comes_onward, leads_on}
+use Rattle.cl_stim.specs.{Integers.IsIntegerWithin, Phase.IsMoment}
+use Rattle.cl_phase.specs.{Walks.{pace_at, onward}, Inner.{Even.{AreEvenTurns, LeadsEvenly}, Ranges.FARTHEST_START}}
+use Rattle.cl_phase.proofs.{EvenHops.{onward_to, onward_begins, onward_evenly, onward_ends}, WalkRanges.{HOP, unset, pace_here, lag_here, pace_in_range, lag_in_range, given_onward, comes_onward, leads_on}}
 use Rattle.cl_phase.proofs.even.leads_evenly_onward.Goals as goal
 
 -- a number as code holds it

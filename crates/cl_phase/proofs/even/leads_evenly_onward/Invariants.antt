@@ -1,10 +1,7 @@
 use Rattle.std.proofs.Common.{◌≡◌, ◌+◌, ◌-◌, ◌*◌, pos}
 use Rattle.cl_stim.specs.Integers.{IsIntegerWithin}
-use Rattle.cl_phase.specs.Walks.{pace_at}
-use Rattle.cl_phase.specs.Inner.Even.{LeadsEvenly}
-use Rattle.cl_phase.specs.Inner.Ranges.{FARTHEST_START}
-use Rattle.cl_phase.proofs.EvenHops.{onward_to}
-use Rattle.cl_phase.proofs.WalkRanges.{HOP}
+use Rattle.cl_phase.specs.{Walks.pace_at, Inner.{Even.LeadsEvenly, Ranges.FARTHEST_START}}
+use Rattle.cl_phase.proofs.{EvenHops.onward_to, WalkRanges.HOP}
 use Rattle.cl_phase.proofs.even.leads_evenly_onward.Given as goal
 
 abbrev pub invariant-loop-i : goal.invariant-loop-i

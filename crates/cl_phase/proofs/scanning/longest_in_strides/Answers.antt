@@ -1,12 +1,7 @@
 use Rattle.std.proofs.Common.{◌≡◌, ℕ, ◌+◌, ◌-◌, ◌*◌, ◌<◌, ◌≤◌, inl, inr, length, max, pos, ap, sym, ◌∙◌, subst, arith, to_z, w64, mul-le-mul_right}
 use Rattle.std.proofs.lemmas.Int.{ints}
-use Rattle.cl_phase.specs.Walks.{pace_at, last_place}
-use Rattle.cl_phase.specs.Inner.Ranges.{LONGEST_HYPERPERIOD}
-use Rattle.cl_phase.specs.Inner.Longest.{longer_of, lengths_at}
-use Rattle.cl_phase.specs.Inner.Scanned.{AreNoLonger, AreLongestFrom, IsInStrides}
-use Rattle.cl_phase.proofs.LongestStrides.{even_within, one_within, strides_begin, strides_leap}
-use Rattle.cl_phase.proofs.PaceSteps.{paces_step}
-use Rattle.cl_phase.proofs.WalkRanges.{goes_on}
+use Rattle.cl_phase.specs.{Walks.{pace_at, last_place}, Inner.{Ranges.LONGEST_HYPERPERIOD, Longest.{longer_of, lengths_at}, Scanned.{AreNoLonger, AreLongestFrom, IsInStrides}}}
+use Rattle.cl_phase.proofs.{LongestStrides.{even_within, one_within, strides_begin, strides_leap}, PaceSteps.paces_step, WalkRanges.goes_on}
 use Rattle.cl_phase.proofs.scanning.longest_in_strides.Goals as goal
 
 -- a leap within the strides comes no further than they do

@@ -3,11 +3,8 @@ use Rattle.std.specs.Prelude.{unsigned_abs}
 use Rattle.std.proofs.lemmas.Int.{ints}
 use Rattle.cl_model.specs.declared.limits.TheConstants.{MOST_TICKS}
 use Rattle.cl_stim.specs.Phase.{first_arrival}
-use Rattle.cl_phase.specs.TightBounds.{starts}
-use Rattle.cl_phase.specs.Inner.Longest.{longest_walk}
-use Rattle.cl_phase.specs.Inner.Ranges.{LONGEST_HYPERPERIOD}
-use Rattle.cl_phase.proofs.LongestWalks.{phase_in_range}
-use Rattle.cl_phase.proofs.StridesCover.{IsScannedTo, scan_begins, scan_goes_on, scan_ends}
+use Rattle.cl_phase.specs.{TightBounds.starts, Inner.{Longest.longest_walk, Ranges.LONGEST_HYPERPERIOD}}
+use Rattle.cl_phase.proofs.{LongestWalks.phase_in_range, StridesCover.{IsScannedTo, scan_begins, scan_goes_on, scan_ends}}
 use Rattle.cl_phase.proofs.scanning.longest_of_phase.Goals as goal
 
 -- an arrival that isn't before a natural number of ticks, as code holds it

@@ -1,9 +1,7 @@
 use Rattle.std.proofs.Common.{◌≡◌, ◌+◌, ◌-◌, ◌*◌, ◌<◌, ◌≤◌, length, ◌-ℤ◌, ap, sym, ◌∙◌, subst, arith, slice_index_or, to_z, of_z, w64}
 use Rattle.std.proofs.lemmas.Int.{ints}
 use Rattle.cl_stim.specs.Integers.{IsIntegerWithin}
-use Rattle.cl_phase.specs.Pace.{previous}
-use Rattle.cl_phase.specs.Walks.{pace_at, back}
-use Rattle.cl_phase.specs.Inner.Ranges.{FARTHEST_START}
+use Rattle.cl_phase.specs.{Pace.previous, Walks.{pace_at, back}, Inner.Ranges.FARTHEST_START}
 use Rattle.cl_phase.proofs.WalkRanges.{HOP, unset, pace_here, lag_here, pace_in_range, lag_in_range, given_back, comes_back, comes_before, walked_near, leads_back}
 use Rattle.cl_phase.proofs.walk.arrival_back.Goals as goal
 

@@ -1,8 +1,6 @@
 use Rattle.std.proofs.Common.{◌≡◌, ◌+◌, ◌-◌, ◌*◌, ◌≤◌}
 use Rattle.cl_stim.specs.Integers.{IsIntegerWithin}
-use Rattle.cl_phase.specs.Pace.{previous}
-use Rattle.cl_phase.specs.Walks.{pace_at, back}
-use Rattle.cl_phase.specs.Inner.Ranges.{FARTHEST_START}
+use Rattle.cl_phase.specs.{Pace.previous, Walks.{pace_at, back}, Inner.Ranges.FARTHEST_START}
 use Rattle.cl_phase.proofs.WalkRanges.{HOP}
 use Rattle.cl_phase.proofs.walk.arrival_back.Given as goal
 

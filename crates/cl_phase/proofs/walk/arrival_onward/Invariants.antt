@@ -1,7 +1,6 @@
 use Rattle.std.proofs.Common.{◌≡◌, ◌+◌, ◌-◌, ◌*◌}
 use Rattle.cl_stim.specs.Integers.{IsIntegerWithin}
-use Rattle.cl_phase.specs.Walks.{onward}
-use Rattle.cl_phase.specs.Inner.Ranges.{FARTHEST_START}
+use Rattle.cl_phase.specs.{Walks.onward, Inner.Ranges.FARTHEST_START}
 use Rattle.cl_phase.proofs.WalkRanges.{HOP}
 use Rattle.cl_phase.proofs.walk.arrival_onward.Given as goal
 

@@ -1,13 +1,9 @@
 use Rattle.std.proofs.Common.{◌≡◌, ◌-◌, length, ℤ, pos, ◌+ℤ◌, ◌-ℤ◌, ap, ◌∙◌, arith, to_z, of_z, w64}
 use Rattle.std.proofs.lemmas.Int.{ints}
 use Rattle.cl_model.specs.declared.limits.TheConstants.{MOST_TICKS}
-use Rattle.cl_stim.specs.Integers.{IsIntegerWithin}
-use Rattle.cl_stim.specs.Phase.{IsMoment}
-use Rattle.cl_phase.specs.Pace.{previous, next}
-use Rattle.cl_phase.specs.Walks.{pace_at, arrival_at_first, arrival_at_last}
-use Rattle.cl_phase.specs.Inner.Longest.{span_between}
-use Rattle.cl_phase.proofs.WalkRanges.{pace_here, pace_in_range}
-use Rattle.cl_phase.proofs.LongestWalks.{lengths_are}
+use Rattle.cl_stim.specs.{Integers.IsIntegerWithin, Phase.IsMoment}
+use Rattle.cl_phase.specs.{Pace.{previous, next}, Walks.{pace_at, arrival_at_first, arrival_at_last}, Inner.Longest.span_between}
+use Rattle.cl_phase.proofs.{WalkRanges.{pace_here, pace_in_range}, LongestWalks.lengths_are}
 use Rattle.cl_phase.proofs.walk.lengths_at.Goals as goal
 
 -- a number as code holds it

@@ -2,9 +2,7 @@ use Rattle.std.proofs.Common.{◌≡◌, ℕ, ◌+◌, ◌-◌, ℤ, List, [], �
 use Rattle.std.specs.List.{range_with_len}
 use Rattle.std.proofs.lemmas.Int.{ints}
 use Rattle.std.proofs.lemmas.List.FromFn.{map-range_with_len_more}
-use Rattle.cl_phase.specs.Pace.{previous}
-use Rattle.cl_phase.specs.Walks.{pace_at, back}
-use Rattle.cl_phase.specs.Walked.{missed}
+use Rattle.cl_phase.specs.{Pace.previous, Walks.{pace_at, back}, Walked.missed}
 use Rattle.cl_phase.proofs.walked.missed.Goals as goal
 
 -- a number as code holds it

@@ -1,7 +1,6 @@
 use Rattle.std.proofs.Common.{◌≡◌, ◌-◌, map}
 use Rattle.std.specs.List.{range_with_len}
-use Rattle.cl_phase.specs.Pace.{previous}
-use Rattle.cl_phase.specs.Walks.{pace_at, back}
+use Rattle.cl_phase.specs.{Pace.previous, Walks.{pace_at, back}}
 use Rattle.cl_phase.proofs.walked.missed.Given as goal
 
 abbrev pub invariant-loop-group : goal.invariant-loop-group

@@ -1,8 +1,6 @@
 use Rattle.std.proofs.Common.{sym, ◌∙◌}
-use Rattle.cl_phase.specs.Walks.{pace_at}
-use Rattle.cl_phase.specs.Inner.Longest.{span_between}
-use Rattle.cl_phase.proofs.ShownStarts.{free_start}
-use Rattle.cl_phase.proofs.WalkRanges.{pace_here}
+use Rattle.cl_phase.specs.{Walks.pace_at, Inner.Longest.span_between}
+use Rattle.cl_phase.proofs.{ShownStarts.free_start, WalkRanges.pace_here}
 use Rattle.cl_phase.proofs.walked.start_of.Goals as goal
 
 pub returns-in-Free-clause-start : goal.returns-in-Free-clause-start

@@ -1,11 +1,8 @@
 use Rattle.std.proofs.Common.{◌≡◌, pos, ℤ, ◌+ℤ◌, ◌≤ℤ◌, ◌<ℤ◌, eq-eqb, ap, sym, ◌∙◌, arith, to_z, of_z, w64}
 use Rattle.std.proofs.lemmas.Int.{ints}
 use Rattle.cl_stim.specs.Phase.{first_arrival}
-use Rattle.cl_phase.specs.TightBounds.{ticks_or_none}
-use Rattle.cl_phase.specs.Walked.{lasts_from}
-use Rattle.cl_phase.specs.Inner.Longest.{span_between, length_of_kind}
-use Rattle.cl_phase.proofs.LongestWalks.{phase_in_range}
-use Rattle.cl_phase.proofs.ShownStarts.{fails_where, lasts_as_found, search_begins, search_goes_on, search_finds, search_ends}
+use Rattle.cl_phase.specs.{TightBounds.ticks_or_none, Walked.lasts_from, Inner.Longest.{span_between, length_of_kind}}
+use Rattle.cl_phase.proofs.{LongestWalks.phase_in_range, ShownStarts.{fails_where, lasts_as_found, search_begins, search_goes_on, search_finds, search_ends}}
 use Rattle.cl_phase.proofs.walked.start_of_phase.Goals as goal
 
 -- a number as code holds it

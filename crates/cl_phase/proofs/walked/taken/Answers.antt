@@ -2,8 +2,7 @@ use Rattle.std.proofs.Common.{◌≡◌, ℕ, ◌+◌, ◌-◌, ℤ, List, [], �
 use Rattle.std.specs.List.{range_with_len}
 use Rattle.std.proofs.lemmas.Int.{ints}
 use Rattle.std.proofs.lemmas.List.FromFn.{map-range_with_len_more}
-use Rattle.cl_phase.specs.Walks.{onward}
-use Rattle.cl_phase.specs.Walked.{taken}
+use Rattle.cl_phase.specs.{Walks.onward, Walked.taken}
 use Rattle.cl_phase.proofs.walked.taken.Goals as goal
 
 -- a number as code holds it

@@ -1,8 +1,7 @@
 use Rattle.std.proofs.Common.{◌≡◌, ℤ, to_z, of_z, w64, ap, sym, ◌∙◌, arith}
 use Rattle.std.proofs.lemmas.Int.{ints}
 use Rattle.cl_runs.specs.SystemOf.{system_of}
-use Rattle.cl_phase.specs.TightBounds.{hyperperiod_in}
-use Rattle.cl_phase.specs.Inner.Longest.{span_between}
+use Rattle.cl_phase.specs.{TightBounds.hyperperiod_in, Inner.Longest.span_between}
 use Rattle.cl_phase.proofs.ShownWalks.{walk_is}
 use Rattle.cl_phase.proofs.walked.walk_lasting.Goals as goal
 

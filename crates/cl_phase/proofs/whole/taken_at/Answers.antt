@@ -1,9 +1,7 @@
 use Rattle.std.proofs.Common.{◌≡◌, ◌-◌, ℤ, to_z, of_z, w64, ap, sym, ◌∙◌, arith}
 use Rattle.std.proofs.lemmas.Int.{ints}
-use Rattle.cl_phase.specs.Pace.{previous, next}
-use Rattle.cl_phase.specs.Walks.{pace_at, onward, back}
-use Rattle.cl_phase.proofs.WalkRanges.{pace_here, pace_in_range}
-use Rattle.cl_phase.proofs.WholeWalks.{taken_onward, taken_before}
+use Rattle.cl_phase.specs.{Pace.{previous, next}, Walks.{pace_at, onward, back}}
+use Rattle.cl_phase.proofs.{WalkRanges.{pace_here, pace_in_range}, WholeWalks.{taken_onward, taken_before}}
 use Rattle.cl_phase.proofs.whole.taken_at.Goals as goal
 
 -- a number as code holds it

@@ -3,10 +3,8 @@ use Rattle.std.proofs.lemmas.Int.{ints}
 use Rattle.std.proofs.lemmas.List.FromFn.{length-map-range_with_len}
 use Rattle.std.proofs.lemmas.Result.{IfOk-weaker}
 use Rattle.cl_runs.specs.SystemOf.{system_of}
-use Rattle.cl_phase.specs.TightBounds.{stops_of, span_of, last_write, slowest, hyperperiod_in}
-use Rattle.cl_phase.specs.Inner.Longest.{span_between}
-use Rattle.cl_phase.proofs.ShownWalks.{start_is_there}
-use Rattle.cl_phase.proofs.WholeWalks.{all_ok, moves_few, some_hyperperiod, moved_walk}
+use Rattle.cl_phase.specs.{TightBounds.{stops_of, span_of, last_write, slowest, hyperperiod_in}, Inner.Longest.span_between}
+use Rattle.cl_phase.proofs.{ShownWalks.start_is_there, WholeWalks.{all_ok, moves_few, some_hyperperiod, moved_walk}}
 use Rattle.cl_phase.proofs.whole.whole_walk.Goals as goal
 
 -- a number as code holds it

@@ -1,6 +1,5 @@
 use Rattle.std.proofs.Common.{ap, ◌∙◌, ℕ, Option, unwrap_or}
-use Rattle.cl_picture.specs.declared.window.TheConstants.{MOST_WINDOW}
-use Rattle.cl_picture.specs.Axis.{axis_step}
+use Rattle.cl_picture.specs.{declared.window.TheConstants.MOST_WINDOW, Axis.axis_step}
 use Rattle.cl_picture.proofs.axis.axis_step.Goals as goal
 
 pub returns-clause-step : goal.returns-clause-step

@@ -3,10 +3,8 @@ use Rattle.std.specs.List.{flat_map, range_with_len}
 use Rattle.std.proofs.lemmas.Result.{IfOk-weaker, on_err_weaker}
 use Rattle.cl_text.specs.Beginnings.{PutsPart}
 use Rattle.cl_text.proofs.Beginnings.{on_error}
-use Rattle.cl_picture.specs.Pieces.{Piece, Fixed, spelled}
-use Rattle.cl_picture.specs.Axis.{tick_at, tick_count, tick_pieces}
-use Rattle.cl_picture.proofs.Beginnings.{first_pieces, second_pieces, first_of_line, second_of_line, numbered_part}
-use Rattle.cl_picture.proofs.Printing.{no_pieces, more_pieces, line_behind, numbered_pieces}
+use Rattle.cl_picture.specs.{Pieces.{Piece, Fixed, spelled}, Axis.{tick_at, tick_count, tick_pieces}}
+use Rattle.cl_picture.proofs.{Beginnings.{first_pieces, second_pieces, first_of_line, second_of_line, numbered_part}, Printing.{no_pieces, more_pieces, line_behind, numbered_pieces}}
 use Rattle.cl_picture.proofs.axis.put_lines.Goals as goal
 
 pub loop-k-init : goal.loop-k-init

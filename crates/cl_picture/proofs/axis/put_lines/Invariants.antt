@@ -1,7 +1,6 @@
 use Rattle.std.proofs.Common.{◌≡◌, ◌++◌}
 use Rattle.std.specs.List.{flat_map, range_with_len}
-use Rattle.cl_picture.specs.Pieces.{spelled}
-use Rattle.cl_picture.specs.Axis.{tick_at, tick_pieces}
+use Rattle.cl_picture.specs.{Pieces.spelled, Axis.{tick_at, tick_pieces}}
 use Rattle.cl_picture.proofs.axis.put_lines.Given as goal
 
 abbrev pub invariant-loop-k : goal.invariant-loop-k

@@ -2,10 +2,8 @@ use Rattle.std.proofs.Common.{◌≡◌, ◌++◌, ◌<◌, [], ◌∷◌, ap, s
 use Rattle.std.specs.List.{range_with_len}
 use Rattle.cl_text.specs.Beginnings.{PutsPart}
 use Rattle.cl_text.proofs.Beginnings.{on_error}
-use Rattle.cl_picture.specs.Pieces.{print}
-use Rattle.cl_picture.specs.Axis.{tick_at, tick_count, tick_line}
-use Rattle.cl_picture.proofs.Beginnings.{numbered_line}
-use Rattle.cl_picture.proofs.Printing.{no_elements, numbered_lines}
+use Rattle.cl_picture.specs.{Pieces.print, Axis.{tick_at, tick_count, tick_line}}
+use Rattle.cl_picture.proofs.{Beginnings.numbered_line, Printing.{no_elements, numbered_lines}}
 use Rattle.cl_picture.proofs.axis.put_ticks.Goals as goal
 
 pub loop-k-init : goal.loop-k-init

@@ -1,7 +1,6 @@
 use Rattle.std.proofs.Common.{◌≡◌, ◌++◌, map}
 use Rattle.std.specs.List.{range_with_len}
-use Rattle.cl_picture.specs.Pieces.{print}
-use Rattle.cl_picture.specs.Axis.{tick_at, tick_line}
+use Rattle.cl_picture.specs.{Pieces.print, Axis.{tick_at, tick_line}}
 use Rattle.cl_picture.proofs.axis.put_ticks.Given as goal
 
 abbrev pub invariant-loop-k : goal.invariant-loop-k

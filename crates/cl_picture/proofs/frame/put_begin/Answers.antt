@@ -1,8 +1,7 @@
 use Rattle.std.proofs.lemmas.Result.{IfOk-weaker, on_err_weaker}
 use Rattle.cl_text.proofs.Beginnings.{on_error}
 use Rattle.cl_picture.specs.Frame.{begin}
-use Rattle.cl_picture.proofs.Printing.{more_elements}
-use Rattle.cl_picture.proofs.Beginnings.{first_elements, second_elements}
+use Rattle.cl_picture.proofs.{Printing.more_elements, Beginnings.{first_elements, second_elements}}
 use Rattle.cl_picture.proofs.frame.put_begin.Goals as goal
 
 pub returns-clause-ok : goal.returns-clause-ok

@@ -3,8 +3,7 @@ use Rattle.cl_chain.specs.JobChains.{measured_of}
 use Rattle.cl_text.proofs.MoreLines.{line_more}
 use Rattle.cl_report.proofs.ReportLines.{chain_within, chain_answer_found}
 use Rattle.cl_replay.specs.Replay.{measured_chain_lines}
-use Rattle.cl_replay.proofs.ChainLines.{lines_at, margins_at}
-use Rattle.cl_replay.proofs.MeasuredChains.{measured_found}
+use Rattle.cl_replay.proofs.{ChainLines.{lines_at, margins_at}, MeasuredChains.measured_found}
 use Rattle.cl_replay.proofs.lines.put_chains.Goals as goal
 
 pub put_chain-requires-clause-margins : goal.put_chain-requires-clause-margins

@@ -1,8 +1,7 @@
 use Rattle.std.proofs.Common.{map, arith}
 use Rattle.cl_check.proofs.ModelsInOrder.{legal_chain_in_order}
 use Rattle.cl_chain.specs.JobChains.{measured_of}
-use Rattle.cl_replay.proofs.MeasuredChains.{more_measured, all_measured}
-use Rattle.cl_replay.proofs.SafeMargins.{have_margins}
+use Rattle.cl_replay.proofs.{MeasuredChains.{more_measured, all_measured}, SafeMargins.have_margins}
 use Rattle.cl_replay.proofs.measuring.measure_all.Goals as goal
 
 pub measure_apart-requires-clause-ordered : goal.measure_apart-requires-clause-ordered

@@ -2,8 +2,7 @@ use Rattle.std.proofs.Common.{List, map, sym, subst}
 use Rattle.std.proofs.lemmas.Result.{IfOk-weaker}
 use Rattle.cl_chain.specs.declared.job_chain.Measured as own
 use Rattle.cl_chain.specs.JobChains.{measured_of}
-use Rattle.cl_replay.specs.Margins.{HaveMargins}
-use Rattle.cl_replay.specs.Replay.{AreMeasured}
+use Rattle.cl_replay.specs.{Margins.HaveMargins, Replay.AreMeasured}
 use Rattle.cl_replay.proofs.replaying.replay.Goals as goal
 
 pub text_of-requires-clause-margins : goal.text_of-requires-clause-margins

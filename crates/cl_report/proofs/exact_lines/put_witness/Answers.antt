@@ -2,10 +2,9 @@ use Rattle.std.proofs.Common.{◌≡◌, ℕ, List, [], ◌∷◌, ◌++◌, ap,
 use Rattle.std.specs.Prelude.{codes, decimal}
 use Rattle.std.proofs.lemmas.List.{append_assoc}
 use Rattle.std.proofs.lemmas.Result.{IfOk-equal, on_err_weaker}
-use Rattle.cl_model.specs.ByNumber.{chain_at}
+use Rattle.cl_model.specs.{ByNumber.chain_at, Kinds.length_word}
 use Rattle.cl_text.specs.Beginnings.{PutsPart}
 use Rattle.cl_text.proofs.Beginnings.{on_error}
-use Rattle.cl_model.specs.Kinds.{length_word}
 use Rattle.cl_report.specs.Report.{jobs_words, witness_line}
 use Rattle.cl_report.proofs.Pieces.{holds_more, stops_behind, stops_within}
 use Rattle.cl_report.proofs.exact_lines.put_witness.Goals as goal

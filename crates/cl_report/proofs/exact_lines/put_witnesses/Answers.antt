@@ -1,14 +1,12 @@
 use Rattle.std.proofs.Common.{◌≡◌, [], ◌∷◌, ◌++◌, length, ap, subst, ◌∙◌}
 use Rattle.std.proofs.lemmas.Result.{on_err_weaker}
-use Rattle.cl_model.specs.declared.chain.LengthKind.TheVariants.{Reaction, Age, Reduced}
-use Rattle.cl_model.specs.Groups.{groups_at}
+use Rattle.cl_model.specs.{declared.chain.LengthKind.TheVariants.{Reaction, Age, Reduced}, Groups.groups_at}
 use Rattle.cl_runs.specs.SystemOf.{system_of}
 use Rattle.cl_exact.specs.declared.witness.Witness.{Witness}
 use Rattle.cl_text.specs.Beginnings.{PutsPart}
 use Rattle.cl_text.proofs.Beginnings.{on_error}
 use Rattle.cl_report.specs.Report.{witness_line}
-use Rattle.cl_report.proofs.Pieces.{part_of_all, holds_more, stops_within}
-use Rattle.cl_report.proofs.ReportLines.{reaction_jobs, age_jobs, reduced_jobs}
+use Rattle.cl_report.proofs.{Pieces.{part_of_all, holds_more, stops_within}, ReportLines.{reaction_jobs, age_jobs, reduced_jobs}}
 use Rattle.cl_report.proofs.exact_lines.put_witnesses.Goals as goal
 
 pub put_witness-requires-clause-jobs : goal.put_witness-requires-clause-jobs

@@ -1,12 +1,10 @@
 use Rattle.std.proofs.Common.{ℕ, ◌<◌, List, ◌++◌, length, sym, ap, subst, ◌∙◌, arith}
 use Rattle.std.proofs.lemmas.List.{append_assoc}
-use Rattle.cl_analyse.specs.declared.findings.ChainAnswer.{ChainAnswer}
-use Rattle.cl_analyse.specs.ChainAnswers.{chain_answer_at, exact_answer_at}
+use Rattle.cl_analyse.specs.{declared.findings.ChainAnswer.ChainAnswer, ChainAnswers.{chain_answer_at, exact_answer_at}}
 use Rattle.cl_report.specs.Report.{chain_line, exact_lines, chain_lines}
 use Rattle.cl_report.proofs.ReportLines.{chain_within, chain_answer_found, late_within}
 use Rattle.cl_text.specs.Beginnings.{PutsPart}
-use Rattle.cl_text.proofs.Beginnings.{puts_first, puts_second, puts_lines, on_error}
-use Rattle.cl_text.proofs.MoreLines.{line_more}
+use Rattle.cl_text.proofs.{Beginnings.{puts_first, puts_second, puts_lines, on_error}, MoreLines.line_more}
 use Rattle.cl_report.proofs.lines.put_chains.Goals as goal
 
 pub put_chain-requires-clause-known : goal.put_chain-requires-clause-known

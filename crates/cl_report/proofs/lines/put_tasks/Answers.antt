@@ -1,9 +1,7 @@
 use Rattle.std.proofs.Common.{ℕ, ◌<◌, ◌++◌, length, ap, subst, ◌∙◌, arith}
-use Rattle.cl_bound.specs.declared.answer.TaskAnswer.{TaskAnswer}
-use Rattle.cl_bound.specs.Answers.{answer_at}
+use Rattle.cl_bound.specs.{declared.answer.TaskAnswer.TaskAnswer, Answers.answer_at}
 use Rattle.cl_text.specs.Beginnings.{PutsPart}
-use Rattle.cl_text.proofs.Beginnings.{puts_lines, on_error}
-use Rattle.cl_text.proofs.MoreLines.{line_more}
+use Rattle.cl_text.proofs.{Beginnings.{puts_lines, on_error}, MoreLines.line_more}
 use Rattle.cl_report.specs.Report.{task_line}
 use Rattle.cl_report.proofs.ReportLines.{task_answer}
 use Rattle.cl_report.proofs.lines.put_tasks.Goals as goal

@@ -4,8 +4,7 @@ use Rattle.std.proofs.lemmas.Result.{on_ok_weaker, on_err_weaker}
 use Rattle.cl_text.proofs.Beginnings.{on_error}
 use Rattle.cl_model.specs.Kinds.{requirement_word}
 use Rattle.cl_report.specs.Report.{verdict_words, verdict_line}
-use Rattle.cl_report.proofs.Pieces.{holds_more, stops_behind, stops_within}
-use Rattle.cl_report.proofs.ReportLines.{judged}
+use Rattle.cl_report.proofs.{Pieces.{holds_more, stops_behind, stops_within}, ReportLines.judged}
 use Rattle.cl_report.proofs.requirement_lines.put_requirement.Goals as goal
 
 pub returns-clause-ok : goal.returns-clause-ok

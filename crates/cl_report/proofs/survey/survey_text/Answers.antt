@@ -3,8 +3,7 @@ use Rattle.std.proofs.lemmas.List.{append_assoc}
 use Rattle.cl_model.specs.declared.chain.LengthKind.TheVariants.{Reaction, Age, Reduced}
 use Rattle.cl_analyse.specs.declared.findings.ChainAnswer.{ChainAnswer}
 use Rattle.cl_report.specs.Survey.{bound_sum, survey_text}
-use Rattle.cl_report.proofs.ReportLines.{tasks_found}
-use Rattle.cl_report.proofs.SmallSums.{sums_fit}
+use Rattle.cl_report.proofs.{ReportLines.tasks_found, SmallSums.sums_fit}
 use Rattle.cl_report.proofs.survey.survey_text.Goals as goal
 
 -- the findings have an answer for each task

@@ -2,8 +2,7 @@ use Rattle.std.proofs.Common.{◌≡◌, ℕ, ◌<◌, ◌++◌, length, ap, ◌
 use Rattle.std.specs.List.{flat_map, range_with_len}
 use Rattle.cl_model.specs.Groups.{groups_at}
 use Rattle.cl_report.specs.Report.{job_words, jobs_words}
-use Rattle.cl_text.proofs.Beginnings.{puts_lines, on_error}
-use Rattle.cl_text.proofs.MoreLines.{line_more}
+use Rattle.cl_text.proofs.{Beginnings.{puts_lines, on_error}, MoreLines.line_more}
 use Rattle.cl_report.proofs.words.put_jobs.Goals as goal
 
 pub loop-place-preserved : goal.loop-place-preserved

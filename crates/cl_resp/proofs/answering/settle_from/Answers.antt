@@ -1,6 +1,5 @@
 use Rattle.std.proofs.Common.{sym, arith}
-use Rattle.cl_resp.proofs.Windows.{window_is_least}
-use Rattle.cl_resp.proofs.BusyWindowTask.{answers_for}
+use Rattle.cl_resp.proofs.{Windows.window_is_least, BusyWindowTask.answers_for}
 use Rattle.cl_resp.proofs.answering.settle_from.Goals as goal
 
 pub overflow_add-result : goal.overflow_add-result

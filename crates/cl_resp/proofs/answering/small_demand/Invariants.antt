@@ -1,8 +1,7 @@
 use Rattle.std.proofs.Common.{◌≡◌, ◌+◌, ◌*◌, ◌^◌, ◌≤◌, take}
 use Rattle.std.specs.Prelude.{sum_by}
 use Rattle.cl_model.specs.declared.limits.TheConstants.{MOST_TICKS, MOST_RUNNABLES}
-use Rattle.cl_stim.specs.AnyStimulus.{kind_of}
-use Rattle.cl_stim.specs.Releases.{most_releases}
+use Rattle.cl_stim.specs.{AnyStimulus.kind_of, Releases.most_releases}
 use Rattle.cl_resp.specs.declared.question.Above.{Above}
 use Rattle.cl_resp.proofs.answering.small_demand.Given as goal
 

@@ -1,9 +1,7 @@
 use Rattle.std.proofs.Common.{◌≤◌, inl, inr, sym, ◌∙◌, arith}
 use Rattle.std.proofs.lemmas.Bool.{cases_lt}
-use Rattle.cl_resp.specs.Response.{demand}
-use Rattle.cl_resp.specs.Inner.Rising.{taken_in}
-use Rattle.cl_resp.proofs.Windows.{less_at_start, less_below_demand, found_at, none_up_to}
-use Rattle.cl_resp.proofs.WhatIsKept.{kept_wider}
+use Rattle.cl_resp.specs.{Response.demand, Inner.Rising.taken_in}
+use Rattle.cl_resp.proofs.{Windows.{less_at_start, less_below_demand, found_at, none_up_to}, WhatIsKept.kept_wider}
 use Rattle.cl_resp.proofs.answering.window.Goals as goal
 
 pub loop-width-init : goal.loop-width-init

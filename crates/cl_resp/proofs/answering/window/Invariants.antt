@@ -1,6 +1,5 @@
 use Rattle.std.proofs.Common.{◌+◌, ◌-◌, ◌≤◌}
-use Rattle.cl_resp.specs.Response.{NoneServesBelow}
-use Rattle.cl_resp.specs.Inner.Rising.{taken_in, AreTaken}
+use Rattle.cl_resp.specs.{Response.NoneServesBelow, Inner.Rising.{taken_in, AreTaken}}
 use Rattle.cl_resp.proofs.answering.window.Given as goal
 
 -- no lesser width holds its own demand, and what is kept holds from this one on

@@ -1,7 +1,6 @@
 use Rattle.std.proofs.Common.{◌≡◌, take, sym, ap, ◌∙◌, take_all, arith}
 use Rattle.std.specs.Prelude.{filter}
-use Rattle.cl_model.specs.ByNumber.{tasks_of_core}
-use Rattle.cl_model.specs.Holds.{greatest_by}
+use Rattle.cl_model.specs.{ByNumber.tasks_of_core, Holds.greatest_by}
 use Rattle.cl_resp.proofs.Questions.{hold_at, may_hold, block_is}
 use Rattle.cl_resp.proofs.asking.block_of.Goals as goal
 

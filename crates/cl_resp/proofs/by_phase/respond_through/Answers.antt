@@ -1,6 +1,5 @@
 use Rattle.std.proofs.Common.{◌-◌, sym, ◌∙◌}
-use Rattle.cl_resp.proofs.PhasedAnswers.{short_if}
-use Rattle.cl_resp.proofs.PartAnswers.{numbered, same_response, behind_first, finishes_through, less_work, in_range_without, serves_without, suffices_without, answered_without}
+use Rattle.cl_resp.proofs.{PhasedAnswers.short_if, PartAnswers.{numbered, same_response, behind_first, finishes_through, less_work, in_range_without, serves_without, suffices_without, answered_without}}
 use Rattle.cl_resp.proofs.by_phase.respond_through.Goals as goal
 
 pub time_behind-behind-requires-clause-task : goal.time_behind-behind-requires-clause-task

@@ -1,8 +1,7 @@
 use Rattle.std.proofs.Common.{ℕ, pos, refl, subst}
 use Rattle.std.specs.Prelude.{Option, IfSome}
 use Rattle.cl_resp.specs.Inner.Phased.{asked_of, ServesAnywhere}
-use Rattle.cl_resp.proofs.SearchedArrivals.{answered_widest}
-use Rattle.cl_resp.proofs.SearchedStarts.{suffices_from}
+use Rattle.cl_resp.proofs.{SearchedArrivals.answered_widest, SearchedStarts.suffices_from}
 use Rattle.cl_resp.proofs.by_phase.response_in_window.Goals as goal
 
 pub returns : goal.returns

@@ -1,11 +1,9 @@
 use Rattle.std.proofs.Common.{◌≡◌, ◌+◌, ◌-◌, length, take, drop, sym, ap, ◌∙◌, take_all, arith}
 use Rattle.std.specs.Prelude.{sum_by}
 use Rattle.std.proofs.lemmas.List.{take_rest}
-use Rattle.cl_model.specs.declared.task.RunnableDef.{RunnableDef}
-use Rattle.cl_model.specs.declared.task.TaskDef.{TaskDef}
+use Rattle.cl_model.specs.declared.task.{RunnableDef.RunnableDef, TaskDef.TaskDef}
 use Rattle.cl_model.proofs.ValidTasks.{little_time}
-use Rattle.cl_resp.proofs.PhasedAnswers.{ranges_counted}
-use Rattle.cl_resp.proofs.PartAnswers.{behind_is, one_more_fits}
+use Rattle.cl_resp.proofs.{PhasedAnswers.ranges_counted, PartAnswers.{behind_is, one_more_fits}}
 use Rattle.cl_resp.proofs.by_phase.time_behind.Goals as goal
 
 pub slice_bounds-runnable-items-count : goal.slice_bounds-runnable-items-count

@@ -1,11 +1,9 @@
 use Rattle.std.proofs.Common.{◌≡◌, false, take, map, get_or, sym, ap, ◌∙◌, subst, take_all, arith}
 use Rattle.std.specs.Prelude.{filter}
-use Rattle.cl_model.specs.declared.stimulus.StimulusKind.{StimulusKind}
-use Rattle.cl_model.specs.ByNumber.{tasks_of_core}
+use Rattle.cl_model.specs.{declared.stimulus.StimulusKind.StimulusKind, ByNumber.tasks_of_core}
 use Rattle.cl_stim.specs.Stimulus.{IsStimulus}
 use Rattle.cl_stim.proofs.ValidStimuli.{has_stimulus}
-use Rattle.cl_resp.proofs.Questions.{above_at}
-use Rattle.cl_resp.proofs.PhasedLists.{is_counted, beside_is}
+use Rattle.cl_resp.proofs.{Questions.above_at, PhasedLists.{is_counted, beside_is}}
 use Rattle.cl_resp.proofs.phased.all_beside.Goals as goal
 
 pub of-stimulus-requires : goal.of-stimulus-requires

@@ -1,7 +1,6 @@
 use Rattle.std.proofs.Common.{◌≡◌, false, take, map}
 use Rattle.std.specs.Prelude.{filter}
-use Rattle.cl_resp.proofs.Questions.{above_at}
-use Rattle.cl_resp.proofs.PhasedLists.{is_counted}
+use Rattle.cl_resp.proofs.{Questions.above_at, PhasedLists.is_counted}
 use Rattle.cl_resp.proofs.phased.all_beside.Given as goal
 
 -- those of the tasks so far that count so

@@ -1,9 +1,6 @@
 use Rattle.std.proofs.Common.{◌≡◌, true, take, map, get_or, sym, ap, ◌∙◌, subst, take_all, arith}
 use Rattle.std.specs.Prelude.{filter}
-use Rattle.cl_model.specs.declared.stimulus.StimulusKind.{StimulusKind}
-use Rattle.cl_model.specs.ByNumber.{tasks_of_core}
-use Rattle.cl_model.specs.Ranges.{IsKindInRange}
-use Rattle.cl_model.specs.Timing.{IsKindOrdered}
+use Rattle.cl_model.specs.{declared.stimulus.StimulusKind.StimulusKind, ByNumber.tasks_of_core, Ranges.IsKindInRange, Timing.IsKindOrdered}
 use Rattle.cl_model.proofs.ValidTasks.{kind_in_range, kind_ordered}
 use Rattle.cl_resp.proofs.PhasedLists.{is_counted, by_phase_at, in_phase_is}
 use Rattle.cl_resp.proofs.phased.all_in_phase.Goals as goal

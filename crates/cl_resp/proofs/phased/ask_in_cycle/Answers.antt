@@ -1,13 +1,9 @@
 use Rattle.std.proofs.Common.{sym, ap, ◌∙◌, subst}
-use Rattle.cl_model.specs.declared.stimulus.StimulusKind.{StimulusKind}
-use Rattle.cl_model.specs.Ranges.{IsKindInRange}
-use Rattle.cl_model.specs.Timing.{IsKindOrdered}
+use Rattle.cl_model.specs.{declared.stimulus.StimulusKind.StimulusKind, Ranges.IsKindInRange, Timing.IsKindOrdered}
 use Rattle.cl_model.proofs.ValidTasks.{kind_in_range, kind_ordered}
 use Rattle.cl_runs.specs.SystemOf.{system_of}
-use Rattle.cl_cycle.specs.Counts.{arrivals_of}
-use Rattle.cl_cycle.specs.Cycles.{in_phase_above}
-use Rattle.cl_resp.proofs.PhasedSums.{same_in_phase}
-use Rattle.cl_resp.proofs.PhasedQuestions.{whole_time, put_asks, put_in_range, put_alone}
+use Rattle.cl_cycle.specs.{Counts.arrivals_of, Cycles.in_phase_above}
+use Rattle.cl_resp.proofs.{PhasedSums.same_in_phase, PhasedQuestions.{whole_time, put_asks, put_in_range, put_alone}}
 use Rattle.cl_resp.proofs.phased.ask_in_cycle.Goals as goal
 
 pub arrivals_of-requires-clause-range : goal.arrivals_of-requires-clause-range

@@ -1,7 +1,6 @@
 use Rattle.std.proofs.Common.{subst, ap, arith}
 use Rattle.cl_runs.proofs.ModelSystem.{count_is}
-use Rattle.cl_resp.specs.declared.question.Question.{Question}
-use Rattle.cl_resp.specs.Response.{NoneServesBelow}
+use Rattle.cl_resp.specs.{declared.question.Question.Question, Response.NoneServesBelow}
 use Rattle.cl_resp.proofs.reached.respond_below.Goals as goal
 
 pub returns-clause-last : goal.returns-clause-last

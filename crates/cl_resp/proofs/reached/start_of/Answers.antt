@@ -2,10 +2,7 @@ use Rattle.std.proofs.Common.{subst, sym, ap, ◌∙◌, arith}
 use Rattle.std.specs.Prelude.{Option, IfSome}
 use Rattle.cl_runs.specs.SystemOf.{system_of}
 use Rattle.cl_runs.proofs.ModelSystem.{count_is, system_sound}
-use Rattle.cl_resp.specs.declared.question.Question.{Question}
-use Rattle.cl_resp.specs.declared.reached.Reached.{Reached}
-use Rattle.cl_resp.specs.Reached.{HasReached}
-use Rattle.cl_resp.specs.Response.{NoneServesBelow}
+use Rattle.cl_resp.specs.{declared.{question.Question.Question, reached.Reached.Reached}, Reached.HasReached, Response.NoneServesBelow}
 use Rattle.cl_resp.proofs.Descending.{none_descends}
 use Rattle.cl_resp.proofs.reached.start_of.Goals as goal
 

@@ -1,8 +1,7 @@
 use Rattle.std.proofs.Common.{◌≡◌, pos, ◌-ℤ◌, ◌<ℤ◌, arith}
 use Rattle.std.specs.Prelude.{unwrap_or}
 use Rattle.std.proofs.lemmas.Int.{ints, clamps}
-use Rattle.cl_resp.proofs.WorstCandidates.{none_between}
-use Rattle.cl_resp.proofs.WorstPlaces.{held}
+use Rattle.cl_resp.proofs.{WorstCandidates.none_between, WorstPlaces.held}
 use Rattle.cl_resp.proofs.worst.candidate_before.Goals as goal
 
 pub returns-clause-none : goal.returns-clause-none

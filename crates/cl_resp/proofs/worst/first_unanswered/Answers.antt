@@ -2,11 +2,8 @@ use Rattle.std.proofs.Common.{◌≡◌, pos, ◌+ℤ◌, ◌≤ℤ◌, ◌<ℤ�
 use Rattle.std.proofs.lemmas.Int.{ints, clamps}
 use Rattle.cl_stim.specs.Phase.{IsArrivalOf, first_arrival}
 use Rattle.cl_stim.proofs.PhaseSteps.{first_arrives}
-use Rattle.cl_resp.specs.Worst.{IsFirstUnanswered}
-use Rattle.cl_resp.specs.Inner.Phased.{asked_of}
-use Rattle.cl_resp.specs.Inner.Worst.{AreAnsweredBefore}
-use Rattle.cl_resp.proofs.WorstPlaces.{held}
-use Rattle.cl_resp.proofs.WorstBeginnings.{answered_before_first, answered_before_next, all_suffices, first_is}
+use Rattle.cl_resp.specs.{Worst.IsFirstUnanswered, Inner.{Phased.asked_of, Worst.AreAnsweredBefore}}
+use Rattle.cl_resp.proofs.{WorstPlaces.held, WorstBeginnings.{answered_before_first, answered_before_next, all_suffices, first_is}}
 use Rattle.cl_resp.proofs.worst.first_unanswered.Goals as goal
 
 pub loop-arrival-init : goal.loop-arrival-init

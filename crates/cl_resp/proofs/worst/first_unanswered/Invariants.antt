@@ -2,8 +2,7 @@ use Rattle.std.proofs.Common.{pos, ◌≤ℤ◌, ◌+◌}
 use Rattle.cl_model.specs.declared.limits.TheConstants.{MOST_TICKS}
 use Rattle.cl_resp.proofs.WorstPlaces.{way_down}
 use Rattle.cl_stim.specs.Phase.{IsArrivalOf}
-use Rattle.cl_resp.specs.Inner.Phased.{asked_of}
-use Rattle.cl_resp.specs.Inner.Worst.{AreAnsweredBefore}
+use Rattle.cl_resp.specs.Inner.{Phased.asked_of, Worst.AreAnsweredBefore}
 use Rattle.cl_resp.proofs.worst.first_unanswered.Given as goal
 
 -- a job arrives at the arrival, and those before it are answered

@@ -2,11 +2,8 @@ use Rattle.std.proofs.Common.{◌≡◌, [], sym, ◌∙◌, subst, arith}
 use Rattle.std.specs.Prelude.{IsTrue, ◌↔◌}
 use Rattle.std.proofs.lemmas.Bool.{true≢false}
 use Rattle.std.proofs.lemmas.Int.{ints}
-use Rattle.cl_resp.specs.declared.phased.InPhase.{InPhase}
-use Rattle.cl_resp.specs.Worst.{is_released_in}
-use Rattle.cl_resp.specs.Inner.Worst.{IsCandidateOf}
-use Rattle.cl_resp.proofs.WorstPlaces.{held}
-use Rattle.cl_resp.proofs.WorstCandidates.{passes_some, passed_some}
+use Rattle.cl_resp.specs.{declared.phased.InPhase.InPhase, Worst.is_released_in, Inner.Worst.IsCandidateOf}
+use Rattle.cl_resp.proofs.{WorstPlaces.held, WorstCandidates.{passes_some, passed_some}}
 use Rattle.cl_resp.proofs.worst.is_candidate.Goals as goal
 
 pub returns-else-is_empty : goal.returns-else-is_empty

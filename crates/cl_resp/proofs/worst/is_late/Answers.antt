@@ -2,9 +2,7 @@ use Rattle.std.proofs.Common.{◌≡◌, ℕ, true, false, to_z, of_z, w64, refl
 use Rattle.std.specs.Prelude.{Option, Some, None, is_some, not, unsigned_abs}
 use Rattle.std.proofs.lemmas.Bool.{true≢false}
 use Rattle.std.proofs.lemmas.Int.{ints, clamps}
-use Rattle.cl_resp.specs.Asked.{EndsBy}
-use Rattle.cl_resp.specs.Worst.{NoneEndsBy}
-use Rattle.cl_resp.specs.Inner.Phased.{asked_of}
+use Rattle.cl_resp.specs.{Asked.EndsBy, Worst.NoneEndsBy, Inner.Phased.asked_of}
 use Rattle.cl_resp.proofs.WorstBeginnings.{late_where_none, ends_where_some}
 use Rattle.cl_resp.proofs.worst.is_late.Goals as goal
 

@@ -3,8 +3,7 @@ use Rattle.std.specs.Prelude.{slice_index_or}
 use Rattle.std.specs.List.{list_any}
 use Rattle.std.proofs.lemmas.Int.{ints}
 use Rattle.std.proofs.lemmas.List.Folds.{list_any_at, list_any_more}
-use Rattle.cl_resp.specs.declared.phased.InPhase.{InPhase}
-use Rattle.cl_resp.specs.Worst.{is_released_in}
+use Rattle.cl_resp.specs.{declared.phased.InPhase.InPhase, Worst.is_released_in}
 use Rattle.cl_resp.proofs.WorstPlaces.{held}
 use Rattle.cl_resp.proofs.worst.is_released.Goals as goal
 

@@ -1,7 +1,6 @@
 use Rattle.std.proofs.Common.{◌≡◌, false, take}
 use Rattle.std.specs.List.{list_any}
-use Rattle.cl_resp.specs.declared.phased.InPhase.{InPhase}
-use Rattle.cl_resp.specs.Worst.{is_released_in}
+use Rattle.cl_resp.specs.{declared.phased.InPhase.InPhase, Worst.is_released_in}
 use Rattle.cl_resp.proofs.worst.is_released.Given as goal
 
 -- none of the tasks so far is released there

@@ -1,7 +1,6 @@
 use Rattle.std.proofs.Common.{◌≡◌, pos, ◌-ℤ◌, ◌≤ℤ◌, ◌<ℤ◌, to_z, of_z, w64, ap, ◌∙◌, arith}
 use Rattle.std.proofs.lemmas.Int.{ints}
-use Rattle.cl_resp.proofs.WorstPlaces.{held, near_held}
-use Rattle.cl_resp.proofs.WorstCandidates.{released_is}
+use Rattle.cl_resp.proofs.{WorstPlaces.{held, near_held}, WorstCandidates.released_is}
 use Rattle.cl_resp.proofs.worst.is_released_by.Goals as goal
 
 pub returns : goal.returns

@@ -1,14 +1,9 @@
 use Rattle.std.proofs.Common.{◌≡◌, ◌≤◌, ℤ, pos, ◌+ℤ◌, ◌-ℤ◌, ◌≤ℤ◌, ◌<ℤ◌, to_z, w64, sym, ap, ◌∙◌, subst, arith}
 use Rattle.std.specs.Prelude.{unwrap_or}
 use Rattle.std.proofs.lemmas.Int.{ints}
-use Rattle.cl_stim.specs.Integers.{IsIntegerWithin}
-use Rattle.cl_stim.specs.Phase.{last_arrival}
-use Rattle.cl_resp.specs.Asked.{MayBegin, EndsBy}
-use Rattle.cl_resp.specs.Worst.{NoneEndsBy}
-use Rattle.cl_resp.specs.Inner.Phased.{asked_of}
-use Rattle.cl_resp.proofs.WorstPlaces.{held, held_arrival, held_before, near_it, begins_there, falls_back, way_falls}
-use Rattle.cl_resp.proofs.WorstRanges.{start_within, latest_held, latest_within, latest_near}
-use Rattle.cl_resp.proofs.WorstBeginnings.{latest_is, answered_after_next}
+use Rattle.cl_stim.specs.{Integers.IsIntegerWithin, Phase.last_arrival}
+use Rattle.cl_resp.specs.{Asked.{MayBegin, EndsBy}, Worst.NoneEndsBy, Inner.Phased.asked_of}
+use Rattle.cl_resp.proofs.{WorstPlaces.{held, held_arrival, held_before, near_it, begins_there, falls_back, way_falls}, WorstRanges.{start_within, latest_held, latest_within, latest_near}, WorstBeginnings.{latest_is, answered_after_next}}
 use Rattle.cl_resp.proofs.worst.latest_unanswered.Goals as goal
 
 pub loop-start-init : goal.loop-start-init

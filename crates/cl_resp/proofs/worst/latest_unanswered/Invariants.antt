@@ -1,7 +1,6 @@
 use Rattle.std.proofs.Common.{ℤ, pos, ◌+ℤ◌, ◌≤ℤ◌, ◌<ℤ◌}
 use Rattle.cl_resp.proofs.WorstPlaces.{way_down}
-use Rattle.cl_resp.specs.Asked.{MayBegin, EndsBy}
-use Rattle.cl_resp.specs.Inner.Phased.{asked_of}
+use Rattle.cl_resp.specs.{Asked.{MayBegin, EndsBy}, Inner.Phased.asked_of}
 use Rattle.cl_resp.proofs.worst.latest_unanswered.Given as goal
 
 -- windows that begin after the start end in time

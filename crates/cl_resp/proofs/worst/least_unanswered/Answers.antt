@@ -2,10 +2,8 @@ use Rattle.std.proofs.Common.{◌≡◌, ◌+◌, ℤ, pos, ◌-ℤ◌, ◌≤�
 use Rattle.std.specs.Prelude.{Option}
 use Rattle.std.proofs.lemmas.Int.{ints}
 use Rattle.cl_resp.specs.Inner.Worst.{IsCandidateOf}
-use Rattle.cl_resp.proofs.WorstPlaces.{held, way_falls}
-use Rattle.cl_resp.proofs.WorstCandidates.{in_bounds_of, candidate_in_bounds, IsFoundAfter, none_after, found_here, not_here, found_past}
+use Rattle.cl_resp.proofs.{WorstPlaces.{held, way_falls}, WorstCandidates.{in_bounds_of, candidate_in_bounds, IsFoundAfter, none_after, found_here, not_here, found_past}, worst.least_unanswered.Goals.{then-is_unanswered, else-is_unanswered}}
 use Rattle.cl_resp.proofs.worst.least_unanswered.Goals as goal
-use Rattle.cl_resp.proofs.worst.least_unanswered.Goals.{then-is_unanswered, else-is_unanswered}
 
 pub loop-start-init : goal.loop-start-init
 loop-start-init c =

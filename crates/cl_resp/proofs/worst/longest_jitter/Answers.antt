@@ -1,10 +1,9 @@
 use Rattle.std.proofs.Common.{◌≡◌, ℕ, ◌+◌, ◌<◌, ◌≤◌, inl, inr, List, length, max, sym, subst, arith}
 use Rattle.std.specs.Prelude.{All, slice_index_or}
 use Rattle.cl_model.specs.declared.limits.TheConstants.{MOST_TICKS}
-use Rattle.cl_resp.specs.Inner.Phased.{IsInPhaseInRange}
+use Rattle.cl_resp.specs.{Inner.Phased.IsInPhaseInRange, declared.phased.InPhase.InPhase}
 use Rattle.std.proofs.lemmas.Bool.{cases_lt}
 use Rattle.std.proofs.lemmas.List.{get_or_default}
-use Rattle.cl_resp.specs.declared.phased.InPhase.{InPhase}
 use Rattle.cl_resp.proofs.worst.longest_jitter.Goals as goal
 
 -- with one more task none so far has a longer jitter

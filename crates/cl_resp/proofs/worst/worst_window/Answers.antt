@@ -3,27 +3,13 @@ use Rattle.std.specs.Prelude.{Option, Some, None, is_some}
 use Rattle.std.specs.Option.{option_map}
 use Rattle.std.proofs.lemmas.Bool.{true≢false}
 use Rattle.std.proofs.lemmas.Int.{ints}
-use Rattle.cl_model.specs.declared.limits.TheConstants.{MOST_TICKS}
-use Rattle.cl_model.specs.declared.model.SystemModel.{SystemModel}
-use Rattle.cl_model.specs.declared.stimulus.StimulusKind.{StimulusKind}
-use Rattle.cl_model.specs.ByNumber.{stimulus_of}
-use Rattle.cl_runs.specs.SystemOf.{system_of}
-use Rattle.cl_runs.specs.TaskTiming.{Timing, timing_at}
+use Rattle.cl_model.specs.{declared.{limits.TheConstants.MOST_TICKS, model.SystemModel.SystemModel, stimulus.StimulusKind.StimulusKind}, ByNumber.stimulus_of}
+use Rattle.cl_runs.specs.{SystemOf.system_of, TaskTiming.{Timing, timing_at}}
 use Rattle.cl_runs.proofs.ModelSystem.{timing_is}
-use Rattle.cl_stim.specs.declared.phase.Phase.{Phase}
-use Rattle.cl_stim.specs.Phase.{phase_of}
-use Rattle.cl_resp.specs.declared.phased.PhasedQuestion.{PhasedQuestion}
-use Rattle.cl_resp.specs.Asked.{suffices}
-use Rattle.cl_resp.specs.ByPhase.{response_by_phase}
-use Rattle.cl_resp.specs.Question.{greatest_execution}
-use Rattle.cl_resp.specs.Response.{Response}
-use Rattle.cl_resp.specs.Worst.{less_than, within_of, IsFirstUnanswered, IsWorstWindowOf}
-use Rattle.cl_resp.specs.Inner.Phased.{asked_of, IsPhasedInRange, IsPhasedQuestionOf}
-use Rattle.cl_resp.specs.Inner.Worst.{AreCandidatesAnswered, IsLeastAfter}
-use Rattle.cl_resp.proofs.WorstCandidates.{in_bounds_of, follows_0}
-use Rattle.cl_resp.proofs.WorstPlaces.{held}
-use Rattle.cl_resp.proofs.WorstTasks.{within_below, worst_fixed, worst_other}
-use Rattle.cl_resp.proofs.WorstWithin.{arrivals_lack, candidates_lack}
+use Rattle.cl_stim.specs.{declared.phase.Phase.Phase, Phase.phase_of}
+use Rattle.cl_resp.specs.{declared.phased.PhasedQuestion.PhasedQuestion, Asked.suffices, ByPhase.response_by_phase, Question.greatest_execution, Response.Response, Worst.{less_than, within_of, IsFirstUnanswered, IsWorstWindowOf}, Inner.Phased.{asked_of, IsPhasedInRange}}
+use Rattle.cl_resp.specs.Inner.{Phased.IsPhasedQuestionOf, Worst.{AreCandidatesAnswered, IsLeastAfter}}
+use Rattle.cl_resp.proofs.{WorstCandidates.{in_bounds_of, follows_0}, WorstPlaces.held, WorstTasks.{within_below, worst_fixed, worst_other}, WorstWithin.{arrivals_lack, candidates_lack}}
 use Rattle.cl_resp.proofs.worst.worst_window.Goals as goal
 
 module _ (model : SystemModel) (task : ℕ) (known : task < length model.tasks) (question : PhasedQuestion)

@@ -1,8 +1,7 @@
 use Rattle.std.proofs.Common.{None, sym, ◌∙◌, arith}
 use Rattle.cl_run_data.specs.declared.stretches.Stretch.{Stretch}
-use Rattle.cl_run_data.proofs.StretchFacts.{widen_longest, widen_entries, longest_push, entries_push, differs_from_read}
+use Rattle.cl_run_data.proofs.{StretchFacts.{widen_longest, widen_entries, longest_push, entries_push, differs_from_read}, stretches.append.Goals.{else-count-gt0-via-then-count-gt0+else-eq, else-count-gt0-via-else-count-gt0}}
 use Rattle.cl_run_data.proofs.stretches.append.Goals as goal
-use Rattle.cl_run_data.proofs.stretches.append.Goals.{else-count-gt0-via-then-count-gt0+else-eq, else-count-gt0-via-else-count-gt0, After-push}
 
 pub returns-then-eq-clause-longest : goal.returns-then-eq-clause-longest
 returns-then-eq-clause-longest c = widen_longest c.args.stretches.now.items c.len-count.result c.index.result.now c.args.who

@@ -1,7 +1,5 @@
 use Rattle.std.proofs.Common.{◌≡◌, length, sym, arith}
-use Rattle.cl_sched.proofs.LawfulTables.{lawful_there}
-use Rattle.cl_sched.proofs.Begun.{number_on, all_of_core}
-use Rattle.cl_sched.proofs.FromTheTop.{are_in_any_order}
+use Rattle.cl_sched.proofs.{LawfulTables.lawful_there, Begun.{number_on, all_of_core}, FromTheTop.are_in_any_order}
 use Rattle.cl_sched.proofs.core_progress.all_unbegun.Goals as goal
 
 pub returns-clause-of_core : goal.returns-clause-of_core

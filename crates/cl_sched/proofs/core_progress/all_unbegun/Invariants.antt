@@ -1,6 +1,5 @@
 use Rattle.std.proofs.Common.{◌≡◌, ℕ, ◌<◌, length, get_or}
-use Rattle.cl_sched.specs.CoreProgress.{progress_at}
-use Rattle.cl_sched.specs.Inner.Executing.{IsUnbegun}
+use Rattle.cl_sched.specs.{CoreProgress.progress_at, Inner.Executing.IsUnbegun}
 use Rattle.cl_sched.proofs.core_progress.all_unbegun.Given as goal
 
 -- each task so far stands before its first job

@@ -1,9 +1,7 @@
 use Rattle.std.proofs.Common.{ap, sym, ◌∙◌, subst}
 use Rattle.cl_model.specs.declared.task.TaskDef.{TaskDef}
-use Rattle.cl_sched.specs.Progress.{HasComeTo}
-use Rattle.cl_sched.specs.Inner.TakingTime.{TakeTime}
-use Rattle.cl_sched.proofs.ModelJobs.{in_table, jobs_take_time}
-use Rattle.cl_sched.proofs.Standing.{none_before}
+use Rattle.cl_sched.specs.{Progress.HasComeTo, Inner.TakingTime.TakeTime}
+use Rattle.cl_sched.proofs.{ModelJobs.{in_table, jobs_take_time}, Standing.none_before}
 use Rattle.cl_sched.proofs.core_progress.unbegun.Goals as goal
 
 pub jobs_of-requires : goal.jobs_of-requires

@@ -1,12 +1,9 @@
 use Rattle.std.proofs.Common.{◌≡◌, ◌∙◌, ap, sym, subst, length, arith}
 use Rattle.std.proofs.lemmas.List.{length-replicate}
-use Rattle.cl_runs.specs.declared.job.JobTable.{JobTable}
-use Rattle.cl_runs.specs.SystemOf.{system_of}
-use Rattle.cl_runs.specs.Table.{IsLawful}
+use Rattle.cl_runs.specs.{declared.job.JobTable.JobTable, SystemOf.system_of, Table.IsLawful}
 use Rattle.cl_runs.proofs.ModelSystem.{cores_are, system_sound}
 use Rattle.cl_sched.specs.CoreProgress.{IsLawfulAt}
-use Rattle.cl_sched.proofs.LawfulTables.{lawful_at}
-use Rattle.cl_sched.proofs.FullCores.{legal_of_cores}
+use Rattle.cl_sched.proofs.{LawfulTables.lawful_at, FullCores.legal_of_cores}
 use Rattle.cl_sched.proofs.simulating.fill.Goals as goal
 
 pub fill_core-requires-clause-sound : goal.fill_core-requires-clause-sound

@@ -1,7 +1,5 @@
 use Rattle.std.proofs.Common.{◌≡◌, ◌-◌, ◌++◌, replicate, ap, sym, ◌∙◌, subst, arith}
-use Rattle.cl_runs.specs.declared.job.JobTable.{JobTable}
-use Rattle.cl_runs.specs.Run.{Run, core_entries}
-use Rattle.cl_runs.specs.SystemOf.{system_of}
+use Rattle.cl_runs.specs.{declared.job.JobTable.JobTable, Run.{Run, core_entries}, SystemOf.system_of}
 use Rattle.cl_sched.specs.CoreProgress.{IsLawfulAt, IsReached}
 use Rattle.cl_sched.proofs.Filled.{filled_further}
 use Rattle.cl_sched.proofs.simulating.fill_from.Goals as goal

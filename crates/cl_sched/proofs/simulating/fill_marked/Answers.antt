@@ -1,13 +1,10 @@
 use Rattle.std.proofs.Common.{◌≡◌, ◌∙◌, ap, sym, subst, length, arith}
 use Rattle.std.proofs.lemmas.List.{length-replicate}
-use Rattle.cl_runs.specs.declared.job.JobTable.{JobTable}
-use Rattle.cl_runs.specs.SystemOf.{system_of}
+use Rattle.cl_runs.specs.{declared.job.JobTable.JobTable, SystemOf.system_of}
 use Rattle.cl_runs.proofs.ModelSystem.{cores_are, system_sound}
 use Rattle.cl_run_data.specs.Parts.{IsLawfulOn}
-use Rattle.cl_sched.specs.CoreTables.{HaveTimes}
-use Rattle.cl_sched.specs.CoreProgress.{IsLawfulAt}
-use Rattle.cl_sched.proofs.LawfulTables.{lawful_at_among}
-use Rattle.cl_sched.proofs.FilledCores.{legal_on_cores}
+use Rattle.cl_sched.specs.{CoreTables.HaveTimes, CoreProgress.IsLawfulAt}
+use Rattle.cl_sched.proofs.{LawfulTables.lawful_at_among, FilledCores.legal_on_cores}
 use Rattle.cl_sched.proofs.simulating.fill_marked.Goals as goal
 
 pub fill_if-requires-clause-sound : goal.fill_if-requires-clause-sound

@@ -1,6 +1,5 @@
 use Rattle.cl_runs.specs.SystemOf.{system_of}
-use Rattle.cl_runs.proofs.ModelSystem.{system_sound}
-use Rattle.cl_runs.proofs.Continuing.{has_continuation}
+use Rattle.cl_runs.proofs.{ModelSystem.system_sound, Continuing.has_continuation}
 use Rattle.cl_sched.proofs.simulating.simulate.Goals as goal
 
 pub returns-in-Ok-clause-continuation : goal.returns-in-Ok-clause-continuation

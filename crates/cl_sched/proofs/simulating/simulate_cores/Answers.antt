@@ -1,7 +1,5 @@
 use Rattle.std.proofs.Common.{ap, sym, subst}
-use Rattle.cl_runs.specs.declared.job.JobTable.{JobTable}
-use Rattle.cl_runs.specs.SystemOf.{system_of}
-use Rattle.cl_runs.specs.Run.{Run}
+use Rattle.cl_runs.specs.{declared.job.JobTable.JobTable, SystemOf.system_of, Run.Run}
 use Rattle.cl_sched.specs.CoreTables.{HaveTimes}
 use Rattle.cl_sched.proofs.CoreTables.{part_have_times}
 use Rattle.cl_sched.proofs.simulating.simulate_cores.Goals as goal

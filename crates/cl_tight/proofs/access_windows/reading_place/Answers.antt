@@ -1,6 +1,5 @@
 use Rattle.std.proofs.Common.{sym, ap, ◌∙◌}
-use Rattle.cl_model.specs.declared.task.TaskDef.{TaskDef}
-use Rattle.cl_model.specs.declared.task.AccessKind.TheVariants.{Implicit, Timed}
+use Rattle.cl_model.specs.declared.task.{TaskDef.TaskDef, AccessKind.TheVariants.{Implicit, Timed}}
 use Rattle.cl_runs.specs.SystemOf.{system_of}
 use Rattle.cl_tight.proofs.AccessTimes.{access_is, implicit_alike, timed_alike}
 use Rattle.cl_tight.proofs.access_windows.reading_place.Goals as goal

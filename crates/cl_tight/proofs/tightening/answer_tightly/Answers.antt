@@ -2,8 +2,7 @@ use Rattle.std.proofs.Common.{◌∙◌, ap, arith}
 use Rattle.cl_runs.specs.SystemOf.{system_of}
 use Rattle.cl_runs.proofs.ModelSystem.{count_is}
 use Rattle.cl_tight.specs.Inner.Windows.{window_in}
-use Rattle.cl_tight.proofs.PlainWindows.{plain_window, plain_count}
-use Rattle.cl_tight.proofs.TightLists.{one_more_answer, all_answers}
+use Rattle.cl_tight.proofs.{PlainWindows.{plain_window, plain_count}, TightLists.{one_more_answer, all_answers}}
 use Rattle.cl_tight.proofs.tightening.answer_tightly.Goals as goal
 
 pub answer_within-requires-clause-widest : goal.answer_within-requires-clause-widest

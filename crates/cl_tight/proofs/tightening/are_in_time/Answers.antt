@@ -1,6 +1,5 @@
 use Rattle.std.proofs.Common.{sym, ◌∙◌, arith}
-use Rattle.cl_tight.proofs.TightTimings.{answer_count}
-use Rattle.cl_tight.proofs.Verified.{late_found, none_found}
+use Rattle.cl_tight.proofs.{TightTimings.answer_count, Verified.{late_found, none_found}}
 use Rattle.cl_tight.proofs.tightening.are_in_time.Goals as goal
 
 pub bounds-answers-task : goal.bounds-answers-task

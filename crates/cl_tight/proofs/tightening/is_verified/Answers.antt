@@ -1,8 +1,6 @@
 use Rattle.std.proofs.Common.{◌≡◌, true, sym, ap, ◌∙◌, subst}
-use Rattle.cl_tight.specs.declared.findings.TightFindings.{TightFindings}
-use Rattle.cl_tight.specs.TightFindings.{tight_findings_of, is_verified}
-use Rattle.cl_tight.proofs.TightLaws.{verified_in_time}
-use Rattle.cl_tight.proofs.Verified.{verified_where, not_verified}
+use Rattle.cl_tight.specs.{declared.findings.TightFindings.TightFindings, TightFindings.{tight_findings_of, is_verified}}
+use Rattle.cl_tight.proofs.{TightLaws.verified_in_time, Verified.{verified_where, not_verified}}
 use Rattle.cl_tight.proofs.tightening.is_verified.Goals as goal
 
 pub are_in_time-requires : goal.are_in_time-requires

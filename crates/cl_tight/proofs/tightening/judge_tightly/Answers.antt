@@ -1,7 +1,6 @@
 use Rattle.std.proofs.Common.{sym, ap, ◌∙◌, ℕ, Option, unwrap_or}
-use Rattle.cl_tight.proofs.TightLists.{judged_exact, judged_bound}
+use Rattle.cl_tight.proofs.{TightLists.{judged_exact, judged_bound}, tightening.judge_tightly.Goals.{then-has_exact_bounds, else-has_exact_bounds}}
 use Rattle.cl_tight.proofs.tightening.judge_tightly.Goals as goal
-use Rattle.cl_tight.proofs.tightening.judge_tightly.Goals.{then-has_exact_bounds, else-has_exact_bounds}
 
 pub returns : goal.returns
 returns c =

@@ -1,7 +1,6 @@
 use Rattle.std.proofs.Common.{sym, subst}
 use Rattle.cl_tight.specs.Promises.{AreSafeTightFindings}
-use Rattle.cl_tight.proofs.TightLaws.{tight_findings_safe}
-use Rattle.cl_tight.proofs.TightLists.{findings_are}
+use Rattle.cl_tight.proofs.{TightLaws.tight_findings_safe, TightLists.findings_are}
 use Rattle.cl_tight.proofs.tightening.tighten.Goals as goal
 
 pub returns-clause-findings : goal.returns-clause-findings

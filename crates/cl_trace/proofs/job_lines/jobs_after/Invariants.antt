@@ -1,7 +1,6 @@
 use Rattle.std.proofs.Common.{◌≡◌, ◌++◌, length, map}
 use Rattle.std.specs.List.{All}
-use Rattle.cl_trace.specs.Trace.{JobOf, text_of}
-use Rattle.cl_trace.specs.Rules.{IsJobOf}
+use Rattle.cl_trace.specs.{Trace.{JobOf, text_of}, Rules.IsJobOf}
 use Rattle.cl_trace.proofs.job_lines.jobs_after.Given as goal
 
 abbrev pub invariant-loop-job : goal.invariant-loop-job

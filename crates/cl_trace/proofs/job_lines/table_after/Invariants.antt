@@ -1,6 +1,5 @@
 use Rattle.std.proofs.Common.{◌≡◌, ℕ, ◌<◌, length}
-use Rattle.cl_model.specs.Name.{IsName}
-use Rattle.cl_model.specs.ByNumber.{task_at}
+use Rattle.cl_model.specs.{Name.IsName, ByNumber.task_at}
 use Rattle.cl_trace.specs.Inner.Bodies.{AreJobLists}
 use Rattle.cl_trace.proofs.job_lines.table_after.Given as goal
 

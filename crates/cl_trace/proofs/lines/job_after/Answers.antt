@@ -1,11 +1,8 @@
 use Rattle.std.proofs.Common.{◌≡◌, ℕ, List, [], ◌∷◌, ◌++◌, length, sym, ap, ◌∙◌}
 use Rattle.std.specs.Prelude.{codes}
-use Rattle.cl_model.specs.declared.model.SystemModel.{SystemModel}
-use Rattle.cl_model.specs.declared.task.TaskDef.{TaskDef}
-use Rattle.cl_model.specs.ByNumber.{task_at}
+use Rattle.cl_model.specs.{declared.{model.SystemModel.SystemModel, task.TaskDef.TaskDef}, ByNumber.task_at}
 use Rattle.cl_runs.specs.declared.job.Job.{Job}
-use Rattle.cl_trace.specs.Trace.{JobOf, item_text, numbers}
-use Rattle.cl_trace.specs.Inner.Pieces.{AreTimes}
+use Rattle.cl_trace.specs.{Trace.{JobOf, item_text, numbers}, Inner.Pieces.AreTimes}
 use Rattle.cl_trace.proofs.LineFacts.{split_line, two_and_more}
 use Rattle.cl_trace.proofs.lines.job_after.Goals as goal
 

@@ -2,10 +2,8 @@ use Rattle.std.proofs.Common.{◌-◌, ◌^◌, ◌<◌, ◌∷◌, ◌++◌, le
 use Rattle.std.specs.Prelude.{decimal}
 use Rattle.std.proofs.lemmas.Bool.{false≢true}
 use Rattle.std.proofs.lemmas.List.{length-drop, take_all}
-use Rattle.cl_trace.proofs.PieceFacts.{behind_blank}
-use Rattle.cl_trace.proofs.LeadingDigits.{digits_are_printed, number_of_printed, rest_of_printed, printed_passes}
+use Rattle.cl_trace.proofs.{PieceFacts.behind_blank, LeadingDigits.{digits_are_printed, number_of_printed, rest_of_printed, printed_passes}, pieces.number_after.Goals.{else-number-most-via-then-number-most+else-are_printed, else-number-most-via-else-number-most}}
 use Rattle.cl_trace.proofs.pieces.number_after.Goals as goal
-use Rattle.cl_trace.proofs.pieces.number_after.Goals.{else-number-most-via-then-number-most+else-are_printed, else-number-most-via-else-number-most}
 
 pub returns-then-are_printed-clause-some : goal.returns-then-are_printed-clause-some
 returns-then-are_printed-clause-some c =

@@ -1,6 +1,5 @@
 use Rattle.std.proofs.Common.{◌≡◌, ◌∷◌, ◌++◌, Some, None, ap, sym, ◌∙◌, subst}
-use Rattle.cl_model.specs.Name.{IsName}
-use Rattle.cl_model.specs.ByNumber.{task_at, task_named}
+use Rattle.cl_model.specs.{Name.IsName, ByNumber.{task_at, task_named}}
 use Rattle.cl_model.proofs.Links.{own_task, task_found}
 use Rattle.cl_trace.proofs.PieceFacts.{name_word, name_is_some, rest_is}
 use Rattle.cl_trace.proofs.pieces.task_after.Goals as goal

@@ -1,8 +1,7 @@
 use Rattle.std.proofs.Common.{◌≡◌, ◌<◌, length, ap, sym, ◌∙◌, arith}
 use Rattle.std.proofs.lemmas.Bool.Decides.{Decides-eqb}
 use Rattle.std.proofs.lemmas.Slice.Eq.{slice_eq-Decides}
-use Rattle.cl_model.specs.declared.task.TaskDef.{TaskDef}
-use Rattle.cl_model.specs.ByNumber.{task_at, task_named}
+use Rattle.cl_model.specs.{declared.task.TaskDef.TaskDef, ByNumber.{task_at, task_named}}
 use Rattle.cl_model.proofs.Links.{own_task}
 use Rattle.cl_trace.proofs.pieces.task_of.Goals as goal
 

@@ -1,11 +1,7 @@
 use Rattle.std.proofs.Common.{◌≡◌, ◌∷◌, length, refl, ap, sym, ◌∙◌, arith}
 use Rattle.std.proofs.lemmas.Bool.Decides.{nat_tests}
 use Rattle.cl_trace.specs.Trace.{item_text}
-use Rattle.cl_trace.proofs.BadCases.{cases_of}
-use Rattle.cl_trace.proofs.BadLines.{no_below, too_long}
-use Rattle.cl_trace.proofs.OneTrace.{run_once, never_bad}
-use Rattle.cl_trace.proofs.PieceFacts.{no_bytes}
-use Rattle.cl_trace.proofs.Readings.{read_trace_of}
+use Rattle.cl_trace.proofs.{BadCases.cases_of, BadLines.{no_below, too_long}, OneTrace.{run_once, never_bad}, PieceFacts.no_bytes, Readings.read_trace_of}
 use Rattle.cl_trace.proofs.reading.ended.Goals as goal
 
 pub returns-in-Some-clause-run : goal.returns-in-Some-clause-run

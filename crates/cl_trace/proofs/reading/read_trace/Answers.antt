@@ -1,9 +1,6 @@
 use Rattle.std.proofs.Common.{◌≡◌, subst}
-use Rattle.cl_trace.specs.Rules.{IsBadTraceLine}
-use Rattle.cl_trace.specs.Trace.{item_text}
-use Rattle.cl_trace.proofs.BadCases.{cases_of}
-use Rattle.cl_trace.proofs.BadLines.{no_title, no_ticks, read_up_to}
-use Rattle.cl_trace.proofs.OneTrace.{behind_title, behind_ticks, title_stands, ticks_stand}
+use Rattle.cl_trace.specs.{Rules.IsBadTraceLine, Trace.item_text}
+use Rattle.cl_trace.proofs.{BadCases.cases_of, BadLines.{no_title, no_ticks, read_up_to}, OneTrace.{behind_title, behind_ticks, title_stands, ticks_stand}}
 use Rattle.cl_trace.proofs.reading.read_trace.Goals as goal
 
 pub returns-in_default-clause-bad_line : goal.returns-in_default-clause-bad_line

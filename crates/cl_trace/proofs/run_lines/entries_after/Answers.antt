@@ -1,12 +1,7 @@
 use Rattle.std.proofs.Common.{◌≡◌, ◌-◌, None, ◌++◌, replicate, length, sym, ap, ◌∙◌, subst, arith}
-use Rattle.cl_runs.specs.declared.job.JobTable.{JobTable}
-use Rattle.cl_runs.specs.Run.{core_entries}
-use Rattle.cl_trace.specs.Trace.{Runs}
-use Rattle.cl_trace.specs.Inner.Bodies.{AreEntriesOf, AreAllEntriesOf, IsRunWith, IsStretchWithin, entries_appended}
-use Rattle.cl_trace.proofs.JobLines.{item_longer}
-use Rattle.cl_trace.proofs.RunWith.{with_same, with_next, with_pushed, entries_of_core, cores_same, ticks_same}
-use Rattle.cl_trace.proofs.StretchItems.{EndsOther, appended_busy}
-use Rattle.cl_trace.proofs.RunLines.{no_entries, no_end, entries_more, entries_all}
+use Rattle.cl_runs.specs.{declared.job.JobTable.JobTable, Run.core_entries}
+use Rattle.cl_trace.specs.{Trace.Runs, Inner.Bodies.{AreEntriesOf, AreAllEntriesOf, IsRunWith, IsStretchWithin, entries_appended}}
+use Rattle.cl_trace.proofs.{JobLines.item_longer, RunWith.{with_same, with_next, with_pushed, entries_of_core, cores_same, ticks_same}, StretchItems.{EndsOther, appended_busy}, RunLines.{no_entries, no_end, entries_more, entries_all}}
 use Rattle.cl_trace.proofs.run_lines.entries_after.Goals as goal
 
 pub loop-line-init : goal.loop-line-init

@@ -1,9 +1,7 @@
 use Rattle.std.proofs.Common.{ap, ◌∙◌, subst, arith}
-use Rattle.cl_runs.specs.declared.job.JobTable.{JobTable}
-use Rattle.cl_runs.specs.Run.{core_entries}
+use Rattle.cl_runs.specs.{declared.job.JobTable.JobTable, Run.core_entries}
 use Rattle.cl_trace.specs.Inner.Bodies.{AreAllEntriesOf}
-use Rattle.cl_trace.proofs.RunWith.{cores_same}
-use Rattle.cl_trace.proofs.CoreLines.{cores_more, other_core}
+use Rattle.cl_trace.proofs.{RunWith.cores_same, CoreLines.{cores_more, other_core}}
 use Rattle.cl_trace.proofs.run_lines.runs_after.Goals as goal
 
 pub loop-core-preserved : goal.loop-core-preserved

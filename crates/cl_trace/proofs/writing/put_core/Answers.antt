@@ -1,6 +1,5 @@
 use Rattle.std.proofs.Common.{sym}
-use Rattle.cl_trace.proofs.LongestStretches.{only_stretches}
-use Rattle.cl_trace.proofs.StretchTasks.{core_within, stretches_of_tasks}
+use Rattle.cl_trace.proofs.{LongestStretches.only_stretches, StretchTasks.{core_within, stretches_of_tasks}}
 use Rattle.cl_trace.proofs.writing.put_core.Goals as goal
 
 pub stretches-requires : goal.stretches-requires

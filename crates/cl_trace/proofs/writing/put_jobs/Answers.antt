@@ -3,8 +3,7 @@ use Rattle.std.specs.List.{flat_map, range_with_len}
 use Rattle.std.proofs.lemmas.List.{get_or_default}
 use Rattle.cl_runs.specs.Run.{jobs_of}
 use Rattle.cl_trace.specs.Trace.{job_items, task_items, text_of}
-use Rattle.cl_trace.proofs.Puts.{lines_more}
-use Rattle.cl_trace.proofs.StretchTasks.{task_within, tasks_are}
+use Rattle.cl_trace.proofs.{Puts.lines_more, StretchTasks.{task_within, tasks_are}}
 use Rattle.cl_trace.proofs.writing.put_jobs.Goals as goal
 
 pub bounds-as_slice-task : goal.bounds-as_slice-task

@@ -1,8 +1,7 @@
 use Rattle.std.proofs.Common.{ap, ◌∙◌, arith, ◌++◌, ◌≡◌, length}
 use Rattle.std.specs.List.{flat_map, range_with_len}
 use Rattle.cl_trace.specs.Trace.{run_items, core_items, text_of}
-use Rattle.cl_trace.proofs.Puts.{lines_more}
-use Rattle.cl_trace.proofs.StretchTasks.{cores_are}
+use Rattle.cl_trace.proofs.{Puts.lines_more, StretchTasks.cores_are}
 use Rattle.cl_trace.proofs.writing.put_runs.Goals as goal
 
 pub loop-core-preserved : goal.loop-core-preserved

@@ -3,8 +3,7 @@ use Rattle.std.proofs.lemmas.List.{append_assoc}
 use Rattle.std.specs.Prelude.{codes}
 use Rattle.cl_text.specs.Line.{line}
 use Rattle.cl_advice.specs.Shown.{quoted}
-use Rattle.cl_traces.specs.TraceLines.{trace_line}
-use Rattle.cl_traces.specs.BadTraceLines.{wanted_in_trace, bad_trace_text}
+use Rattle.cl_traces.specs.{TraceLines.trace_line, BadTraceLines.{wanted_in_trace, bad_trace_text}}
 use Rattle.cl_traces.proofs.bad_line.put_bad_trace_line.Goals as goal
 
 two_lines : (a w b t0 t1 t2 t3 t4 : List ℕ) → t1 ≡ t0 ++ a → t2 ≡ t1 ++ w → t3 ≡ t2 ++ b → t4 ≡ t3 ++ 0x0A ∷ [] → t4 ≡ t0 ++ (a ++ line (w ++ b))

@@ -1,9 +1,7 @@
 use Rattle.std.proofs.Common.{◌≡◌, ℕ, ◌-◌, Bool, true, false, List, ◌++◌, Option, refl, sym, ap, ◌∙◌, subst}
 use Rattle.std.specs.Prelude.{if◌then◌else◌, codes, OnOk}
 use Rattle.std.specs.Str.{bytes_eq}
-use Rattle.cl_traces.specs.declared.run_line.RunLine.{RunLine}
-use Rattle.cl_traces.specs.BadTraceLines.{ticks_of_trace, run_line_at, wanted_job, wanted_run, wanted_by_word}
-use Rattle.cl_traces.specs.TraceLines.{trace_line, line_word}
+use Rattle.cl_traces.specs.{declared.run_line.RunLine.RunLine, BadTraceLines.{ticks_of_trace, run_line_at, wanted_job, wanted_run}, TraceLines.{trace_line, line_word}}
 use Rattle.cl_traces.proofs.bad_line.put_by_word.Goals as goal
 
 first_of : (p : Bool) (x y : List ℕ) → p ≡ true → (if p then x else y) ≡ x

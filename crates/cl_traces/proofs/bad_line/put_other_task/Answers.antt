@@ -1,4 +1,4 @@
-use Rattle.std.proofs.Common.{List, ℕ, ◌++◌, length, ap, ◌∙◌}
+use Rattle.std.proofs.Common.{List, ℕ, ◌++◌, ap, ◌∙◌}
 use Rattle.std.specs.Prelude.{codes, decimal}
 use Rattle.cl_advice.proofs.Pieces.{four_pieces}
 use Rattle.cl_traces.proofs.bad_line.put_other_task.Goals as goal

@@ -1,12 +1,6 @@
-use Rattle.std.proofs.Common.{◌≡◌, List, ℕ, ◌++◌, sym, ap, ◌∙◌, subst, arith}
-use Rattle.cl_model.specs.declared.stimulus.StimulusKind.{StimulusKind}
-use Rattle.cl_model.specs.declared.task.TaskDef.{TaskDef}
-use Rattle.cl_model.specs.ByNumber.{task_at, stimulus_of}
-use Rattle.cl_runs.specs.declared.job.Job.{Job}
-use Rattle.cl_runs.specs.declared.job.JobTable.{JobTable}
-use Rattle.cl_runs.specs.Pattern.{IsPattern, first_least, first_greatest}
-use Rattle.cl_runs.specs.Table.{table_jobs}
-use Rattle.cl_runs.specs.TaskTiming.{Timing}
+use Rattle.std.proofs.Common.{List, ℕ, ◌++◌, sym, ap, ◌∙◌, subst, arith}
+use Rattle.cl_model.specs.{declared.{stimulus.StimulusKind.StimulusKind, task.TaskDef.TaskDef}, ByNumber.{task_at, stimulus_of}}
+use Rattle.cl_runs.specs.{declared.job.{Job.Job, JobTable.JobTable}, Pattern.{IsPattern, first_least, first_greatest}, Table.table_jobs, TaskTiming.Timing}
 use Rattle.cl_runs.proofs.ModelSystem.{timing_is, count_is, system_sound}
 use Rattle.cl_traces.specs.SaidOfRules.{arrival_text}
 use Rattle.cl_traces.proofs.broken.put_arrival_of.Goals as goal

@@ -2,13 +2,9 @@ use Rattle.std.proofs.Common.{refl, sym, subst}
 use Rattle.std.proofs.lemmas.Result.{on_ok_weaker}
 use Rattle.cl_model.specs.ByNumber.{task_at}
 use Rattle.cl_runs.specs.SystemOf.{system_of}
-use Rattle.cl_check.specs.declared.run_fault.Rule.{Rule}
-use Rattle.cl_check.specs.declared.run_fault.Rule.TheVariants.{Arrival, Release, Time, Missing, Schedule}
-use Rattle.cl_check.specs.declared.run_fault.RunFault.TheVariants.{Illegal}
-use Rattle.cl_check.specs.Legality.{IsFirstBroken}
+use Rattle.cl_check.specs.{declared.run_fault.{Rule.{Rule, TheVariants.{Arrival, Release, Time, Missing}}, RunFault.TheVariants.Illegal}, Legality.IsFirstBroken}
 use Rattle.cl_traces.specs.SaidOfRules.{said_of_arrival, said_of_release, said_of_time, missing_text, TellsOfRule}
-use Rattle.cl_traces.proofs.BrokenPlaces.{IsTableRule, broken_task, broken_jobs, broken_core}
-use Rattle.cl_traces.proofs.OneText.{tells}
+use Rattle.cl_traces.proofs.{BrokenPlaces.{IsTableRule, broken_task, broken_jobs, broken_core}, OneText.tells}
 use Rattle.cl_traces.proofs.broken.put_broken_rule.Goals as goal
 
 pub put_arrival_of-requires-clause-task : goal.put_arrival_of-requires-clause-task

@@ -1,7 +1,6 @@
-use Rattle.std.proofs.Common.{List, ℕ, ◌++◌, length, ap, ◌∙◌}
+use Rattle.std.proofs.Common.{List, ℕ, ◌++◌, ap, ◌∙◌}
 use Rattle.std.specs.Prelude.{codes, decimal}
-use Rattle.cl_model.specs.declared.task.TaskDef.{TaskDef}
-use Rattle.cl_model.specs.ByNumber.{task_at}
+use Rattle.cl_model.specs.{declared.task.TaskDef.TaskDef, ByNumber.task_at}
 use Rattle.cl_advice.proofs.Pieces.{lined_four}
 use Rattle.cl_traces.proofs.broken.put_missing.Goals as goal
 

@@ -1,9 +1,6 @@
-use Rattle.std.proofs.Common.{List, ℕ, ◌++◌, ap, ◌∙◌}
-use Rattle.cl_model.specs.declared.stimulus.StimulusKind.{StimulusKind}
-use Rattle.cl_model.specs.ByNumber.{stimulus_of}
-use Rattle.cl_runs.specs.declared.job.Job.{Job}
-use Rattle.cl_runs.specs.declared.job.JobTable.{JobTable}
-use Rattle.cl_runs.specs.Table.{table_jobs}
+use Rattle.std.proofs.Common.{List, ◌++◌, ap, ◌∙◌}
+use Rattle.cl_model.specs.{declared.stimulus.StimulusKind.StimulusKind, ByNumber.stimulus_of}
+use Rattle.cl_runs.specs.{declared.job.{Job.Job, JobTable.JobTable}, Table.table_jobs}
 use Rattle.cl_traces.specs.SaidOfRules.{release_text}
 use Rattle.cl_traces.proofs.broken.put_release_of.Goals as goal
 

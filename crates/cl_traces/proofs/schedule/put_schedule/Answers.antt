@@ -1,7 +1,6 @@
-use Rattle.std.proofs.Common.{◌≡◌, ℕ, ◌<◌, ◌++◌, length, Option, refl, sym, ap, ◌∙◌, subst, arith}
+use Rattle.std.proofs.Common.{ℕ, ◌<◌, ◌++◌, length, Option, refl, sym, ap, ◌∙◌, subst, arith}
 use Rattle.std.specs.Prelude.{IfSome}
-use Rattle.cl_runs.specs.declared.job.JobTable.{JobTable}
-use Rattle.cl_runs.specs.Run.{entry_at}
+use Rattle.cl_runs.specs.{declared.job.JobTable.JobTable, Run.entry_at}
 use Rattle.cl_traces.specs.SaidOfRules.{found_and_wanted, entry_words}
 use Rattle.cl_traces.proofs.CoreEntries.{has_entries, has_entry, entry_within}
 use Rattle.cl_traces.proofs.schedule.put_schedule.Goals as goal

@@ -1,18 +1,13 @@
 use Rattle.std.proofs.Common.{◌≡◌, ℕ, suc, ◌+◌, ◌-◌, ◌<◌, ◌≤◌, max, not, Option, Some, None, List, [], ◌∷◌, ◌++◌, length, refl, sym, ap, ◌∙◌, subst, arith}
 use Rattle.std.specs.Prelude.{All, ◌==◌, find}
 use Rattle.std.proofs.lemmas.List.Elements.{All-filter}
-use Rattle.cl_model.specs.declared.limits.TheConstants.{MOST_TICKS, MOST_TASKS_OF_CORE}
-use Rattle.cl_model.specs.ByNumber.{tasks_of_core}
+use Rattle.cl_model.specs.{declared.limits.TheConstants.{MOST_TICKS, MOST_TASKS_OF_CORE}, ByNumber.tasks_of_core}
 use Rattle.cl_model.proofs.CoreTasks.{few_tasks}
-use Rattle.cl_runs.specs.SystemOf.{system_of}
-use Rattle.cl_runs.specs.TaskTiming.{timing_at}
+use Rattle.cl_runs.specs.{SystemOf.system_of, TaskTiming.timing_at}
 use Rattle.cl_resp.specs.Question.{longest_hold}
 use Rattle.cl_resp.proofs.Filters.{shorter}
 use Rattle.cl_tune.specs.Inner.Filling.{without, fits, best_order}
-use Rattle.cl_tune.proofs.Members.{distinct_filter}
-use Rattle.cl_tune.proofs.FilledOrders.{tasks_distinct}
-use Rattle.cl_tune.proofs.FillingSteps.{found_known, behind, none_fits, one_fits, all_placed}
-use Rattle.cl_tune.proofs.filling.best_order.Invariants.{IsSoFar}
+use Rattle.cl_tune.proofs.{Members.distinct_filter, FilledOrders.tasks_distinct, FillingSteps.{found_known, behind, none_fits, one_fits, all_placed}, filling.best_order.Invariants.IsSoFar}
 use Rattle.cl_tune.proofs.filling.best_order.Goals as goal
 
 start : (whole : Option (List ℕ)) → whole ≡ behind [] whole

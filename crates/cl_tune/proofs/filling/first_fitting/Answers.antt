@@ -1,11 +1,9 @@
 use Rattle.std.proofs.Common.{rules, ◌≡◌, ℕ, Bool, false, List, get_or, take, sym, ap, ◌∙◌, subst, take_all, arith}
 use Rattle.std.specs.Prelude.{All, slice_set}
 use Rattle.std.proofs.lemmas.List.Elements.{All-more}
-use Rattle.cl_runs.specs.SystemOf.{system_of}
-use Rattle.cl_runs.specs.TaskTiming.{timing_at}
+use Rattle.cl_runs.specs.{SystemOf.system_of, TaskTiming.timing_at}
 use Rattle.cl_runs.proofs.FirstFound.{finds_first, finds_none}
-use Rattle.cl_resp.specs.declared.question.Above.{Above}
-use Rattle.cl_resp.specs.Question.{taken_by}
+use Rattle.cl_resp.specs.{declared.question.Above.Above, Question.taken_by}
 use Rattle.cl_tune.specs.Inner.Filling.{fits}
 use Rattle.cl_tune.proofs.AskedPlaces.{first_others, next_others, asked_in_range, fits_is}
 use Rattle.cl_tune.proofs.filling.first_fitting.Goals as goal

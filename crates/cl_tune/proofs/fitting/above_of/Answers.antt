@@ -1,8 +1,6 @@
 use Rattle.std.proofs.Common.{◌≡◌, sym, ap, ◌∙◌, subst}
-use Rattle.cl_model.specs.declared.stimulus.StimulusKind.{StimulusKind}
-use Rattle.cl_model.specs.ByNumber.{stimulus_of}
-use Rattle.cl_stim.specs.AnyStimulus.{as_stimulus}
-use Rattle.cl_stim.specs.Stimulus.{IsStimulus}
+use Rattle.cl_model.specs.{declared.stimulus.StimulusKind.StimulusKind, ByNumber.stimulus_of}
+use Rattle.cl_stim.specs.{AnyStimulus.as_stimulus, Stimulus.IsStimulus}
 use Rattle.cl_stim.proofs.ValidStimuli.{has_stimulus}
 use Rattle.cl_tune.proofs.Timings.{taken_at, taken_is}
 use Rattle.cl_tune.proofs.fitting.above_of.Goals as goal

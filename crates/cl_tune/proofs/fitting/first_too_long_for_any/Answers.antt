@@ -1,13 +1,10 @@
 use Rattle.std.proofs.Common.{◌≡◌, ℕ, ◌<◌, Bool, not, ◌&&◌, nat_lt, nat_le, List, length, get_or, take, sym, ap, ◌∙◌, take_all, arith}
 use Rattle.std.proofs.lemmas.Bool.{lt-ltb}
 use Rattle.std.proofs.lemmas.List.Folds.{list_all_more}
-use Rattle.cl_model.specs.declared.stimulus.StimulusKind.{StimulusKind}
-use Rattle.cl_model.specs.ValidTasks.{spans_too_many}
-use Rattle.cl_runs.specs.SystemOf.{system_of}
-use Rattle.cl_runs.specs.TaskTiming.{timing_at}
+use Rattle.cl_model.specs.{declared.stimulus.StimulusKind.StimulusKind, ValidTasks.spans_too_many}
+use Rattle.cl_runs.specs.{SystemOf.system_of, TaskTiming.timing_at}
 use Rattle.cl_tune.specs.Inner.Filling.{spans_few_of}
-use Rattle.cl_tune.proofs.Timings.{pattern_is}
-use Rattle.cl_tune.proofs.OthersTaken.{below_both}
+use Rattle.cl_tune.proofs.{Timings.pattern_is, OthersTaken.below_both}
 use Rattle.cl_tune.proofs.fitting.first_too_long_for_any.Goals as goal
 
 pub loop-task-init : goal.loop-task-init

@@ -1,7 +1,5 @@
 use Rattle.std.proofs.Common.{◌≡◌, sym, ap, ◌∙◌, subst, ◌≤◌}
-use Rattle.cl_model.specs.declared.limits.TheConstants.{MOST_TICKS}
-use Rattle.cl_model.specs.Holds.{task_hold}
-use Rattle.cl_model.specs.declared.task.TaskDef.{TaskDef}
+use Rattle.cl_model.specs.{declared.{limits.TheConstants.MOST_TICKS, task.TaskDef.TaskDef}, Holds.task_hold}
 use Rattle.cl_tune.proofs.Timings.{hold_at, hold_is, hold_few}
 use Rattle.cl_tune.proofs.fitting.longest_hold.Goals as goal
 

@@ -1,7 +1,6 @@
 use Rattle.std.proofs.Common.{◌≡◌, take, map, get_or, sym, ap, ◌∙◌, subst, take_all, arith}
 use Rattle.std.specs.Prelude.{filter}
-use Rattle.cl_model.specs.declared.stimulus.StimulusKind.{StimulusKind}
-use Rattle.cl_model.specs.ByNumber.{tasks_of_core}
+use Rattle.cl_model.specs.{declared.stimulus.StimulusKind.StimulusKind, ByNumber.tasks_of_core}
 use Rattle.cl_stim.specs.Stimulus.{IsStimulus}
 use Rattle.cl_stim.proofs.ValidStimuli.{has_stimulus}
 use Rattle.cl_tune.specs.Inner.Times.{is_higher, above_with}

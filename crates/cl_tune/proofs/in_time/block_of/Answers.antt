@@ -1,7 +1,6 @@
 use Rattle.std.proofs.Common.{◌≡◌, take, ap, ◌∙◌, take_all, arith}
 use Rattle.std.specs.Prelude.{filter}
-use Rattle.cl_model.specs.ByNumber.{tasks_of_core}
-use Rattle.cl_model.specs.Holds.{greatest_by}
+use Rattle.cl_model.specs.{ByNumber.tasks_of_core, Holds.greatest_by}
 use Rattle.cl_tune.specs.Inner.Times.{may_hold, hold_with}
 use Rattle.cl_tune.proofs.in_time.block_of.Goals as goal
 

@@ -1,10 +1,7 @@
 use Rattle.std.proofs.Common.{◌<◌, length, sym, ap, ◌∙◌, subst, arith, below_more}
 use Rattle.std.proofs.lemmas.Bool.{true≢false}
-use Rattle.cl_resp.specs.declared.question.Question.{Question}
-use Rattle.cl_resp.specs.Question.{IsQuestionInRange}
-use Rattle.cl_resp.specs.Response.{response_to}
-use Rattle.cl_bound.specs.declared.answer.TaskAnswer.{TaskAnswer}
-use Rattle.cl_bound.specs.Answers.{answer_with, is_late}
+use Rattle.cl_resp.specs.{declared.question.Question.Question, Question.IsQuestionInRange, Response.response_to}
+use Rattle.cl_bound.specs.{declared.answer.TaskAnswer.TaskAnswer, Answers.{answer_with, is_late}}
 use Rattle.cl_tune.proofs.in_time.tasks_in_time.Goals as goal
 
 pub answer_question-requires : goal.answer_question-requires

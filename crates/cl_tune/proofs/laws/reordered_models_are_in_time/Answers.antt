@@ -1,5 +1,4 @@
-use Rattle.cl_tune.proofs.ReorderedModels.{all_in_time}
-use Rattle.cl_tune.proofs.KeptInTime.{reordered_in_time}
+use Rattle.cl_tune.proofs.{ReorderedModels.all_in_time, KeptInTime.reordered_in_time}
 use Rattle.cl_tune.proofs.laws.reordered_models_are_in_time.Goals as goal
 
 pub returns-clause-timely : goal.returns-clause-timely

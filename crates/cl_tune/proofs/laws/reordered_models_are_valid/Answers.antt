@@ -1,5 +1,4 @@
-use Rattle.cl_tune.proofs.NewPriorities.{has_priorities}
-use Rattle.cl_tune.proofs.ReorderedValid.{reordered_valid}
+use Rattle.cl_tune.proofs.{NewPriorities.has_priorities, ReorderedValid.reordered_valid}
 use Rattle.cl_tune.proofs.laws.reordered_models_are_valid.Goals as goal
 
 pub returns-clause-valid : goal.returns-clause-valid

@@ -2,8 +2,7 @@ use Rattle.std.proofs.Common.{◌≡◌, ℕ, ◌<◌, None, List, [], ◌∷◌
 use Rattle.std.specs.Option.{option_map}
 use Rattle.cl_model.specs.ByNumber.{tasks_of_core}
 use Rattle.cl_runs.specs.SystemOf.{system_of}
-use Rattle.cl_tune.specs.Inner.Filling.{best_order}
-use Rattle.cl_tune.specs.Orders.{priority_in}
+use Rattle.cl_tune.specs.{Inner.Filling.best_order, Orders.priority_in}
 use Rattle.cl_tune.proofs.CoreOrders.{filled_is_best, none_filled}
 use Rattle.cl_tune.proofs.ordering.order.Goals as goal
 

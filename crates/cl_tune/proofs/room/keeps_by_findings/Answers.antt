@@ -1,15 +1,10 @@
 use Rattle.std.proofs.Common.{◌≡◌, ℕ, Bool, true, false, sym, ◌∙◌, subst}
 use Rattle.std.specs.Prelude.{MatchBool}
 use Rattle.std.proofs.lemmas.Bool.{cases_from_iff}
-use Rattle.cl_model.specs.declared.model.SystemModel.{SystemModel}
-use Rattle.cl_model.specs.Ranges.{IsInRange}
-use Rattle.cl_model.specs.Validity.{IsValid}
-use Rattle.cl_analyse.specs.declared.findings.Findings.{Findings}
-use Rattle.cl_analyse.specs.Findings.{AreFindings}
-use Rattle.cl_tune.specs.Headroom.{Keeps}
-use Rattle.cl_tune.specs.Scaled.{scaled}
-use Rattle.cl_tune.proofs.KeptFindings.{IsKept, keeping, kept_of}
-use Rattle.cl_tune.proofs.ScaledValid.{scaled_valid}
+use Rattle.cl_model.specs.{declared.model.SystemModel.SystemModel, Ranges.IsInRange, Validity.IsValid}
+use Rattle.cl_analyse.specs.{declared.findings.Findings.Findings, Findings.AreFindings}
+use Rattle.cl_tune.specs.{Headroom.Keeps, Scaled.scaled}
+use Rattle.cl_tune.proofs.{KeptFindings.{IsKept, keeping, kept_of}, ScaledValid.scaled_valid}
 use Rattle.cl_tune.proofs.room.keeps_by_findings.Goals as goal
 
 module _ (model : SystemModel) (percent : ℕ) (in_range : IsInRange (scaled model percent)) (findings : Findings)

@@ -1,6 +1,5 @@
 use Rattle.std.proofs.Common.{subst, ap, ◌∙◌}
-use Rattle.cl_model.specs.Answers.{Answers}
-use Rattle.cl_model.specs.Refusals.{each}
+use Rattle.cl_model.specs.{Answers.Answers, Refusals.each}
 use Rattle.cl_valid.specs.Inner.ChainsByTable.{use_chain_check}
 use Rattle.cl_valid.proofs.ChainsByTable.{chains_are}
 use Rattle.cl_valid.proofs.chains.check_chains.Goals as goal

@@ -1,8 +1,6 @@
 use Rattle.std.proofs.Common.{subst, ap, ◌∙◌}
-use Rattle.cl_model.specs.Answers.{Answers}
-use Rattle.cl_model.specs.Refusals.{each}
-use Rattle.cl_valid.specs.Inner.ChainsByTable.{known_chain_check}
-use Rattle.cl_valid.specs.declared.names.Names.{Names}
+use Rattle.cl_model.specs.{Answers.Answers, Refusals.each}
+use Rattle.cl_valid.specs.{Inner.ChainsByTable.known_chain_check, declared.names.Names.Names}
 use Rattle.cl_valid.proofs.chains.check_requirements.Goals as goal
 
 pub returns : goal.returns

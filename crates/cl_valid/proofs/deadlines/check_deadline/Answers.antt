@@ -1,12 +1,9 @@
 use Rattle.std.proofs.Common.{subst, sym, ap, ◌∙◌, arith}
 use Rattle.std.specs.Prelude.{is_some}
 use Rattle.std.proofs.lemmas.Option.{slice_get_within, get_or_from_slice_get}
-use Rattle.cl_model.specs.Answers.{Answers}
-use Rattle.cl_model.specs.Named.{has_name, core_names, kind_named}
-use Rattle.cl_model.specs.Place.{at_key}
+use Rattle.cl_model.specs.{Answers.Answers, Named.{has_name, core_names, kind_named}, Place.at_key}
 use Rattle.cl_model.specs.declared.place.Key.TheVariants as key
-use Rattle.cl_model.proofs.NamePlaces.{found_somewhere}
-use Rattle.cl_model.proofs.NamesKnown.{core_is_known, stimulus_is_known}
+use Rattle.cl_model.proofs.{NamePlaces.found_somewhere, NamesKnown.{core_is_known, stimulus_is_known}}
 use Rattle.cl_valid.specs.declared.names.Names.{Names}
 use Rattle.cl_valid.proofs.TasksByShare.{deadline_is}
 use Rattle.cl_valid.proofs.deadlines.check_deadline.Goals as goal

@@ -1,6 +1,5 @@
 use Rattle.std.proofs.Common.{◌≡◌, drop}
-use Rattle.cl_model.specs.Refusals.{each, each_from}
-use Rattle.cl_model.specs.ValidTasks.{deadline_check}
+use Rattle.cl_model.specs.{Refusals.{each, each_from}, ValidTasks.deadline_check}
 use Rattle.cl_valid.proofs.deadlines.check_deadlines.Given as goal
 
 -- what is refused in all is what is refused in the rest

@@ -1,10 +1,8 @@
 use Rattle.std.proofs.Common.{refl, ap, ◌∙◌}
 use Rattle.std.proofs.lemmas.List.{take_all}
 use Rattle.std.proofs.lemmas.Result.{err_from_is_err_and}
-use Rattle.cl_model.specs.Named.{runnable_names, all_runnables}
-use Rattle.cl_model.specs.ValidNames.{runnable_repeats}
-use Rattle.cl_model.proofs.FirstRefusals.{all_checked, next_passes, next_refused}
-use Rattle.cl_model.proofs.RunnableNames.{runnable_names_more}
+use Rattle.cl_model.specs.{Named.{runnable_names, all_runnables}, ValidNames.runnable_repeats}
+use Rattle.cl_model.proofs.{FirstRefusals.{all_checked, next_passes, next_refused}, RunnableNames.runnable_names_more}
 use Rattle.cl_valid.proofs.AddedNames.{runnables_fit}
 use Rattle.cl_valid.proofs.names.add_all_runnables.Goals as goal
 

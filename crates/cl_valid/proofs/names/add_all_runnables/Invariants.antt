@@ -1,7 +1,5 @@
 use Rattle.std.proofs.Common.{◌≡◌, take, drop}
-use Rattle.cl_model.specs.Named.{runnable_names, all_runnables}
-use Rattle.cl_model.specs.Refusals.{each, each_from}
-use Rattle.cl_model.specs.ValidNames.{runnable_repeats}
+use Rattle.cl_model.specs.{Named.{runnable_names, all_runnables}, Refusals.{each, each_from}, ValidNames.runnable_repeats}
 use Rattle.cl_valid.proofs.names.add_all_runnables.Given as goal
 
 -- the runnables of the tasks so far are numbered, and what is refused of all is what is refused of the rest

@@ -2,9 +2,7 @@ use Rattle.std.proofs.Common.{refl, ap, ◌∙◌}
 use Rattle.std.proofs.lemmas.Result.{err_from_is_err_and}
 use Rattle.cl_model.specs.declared.place.Key.TheVariants as key
 use Rattle.cl_model.specs.declared.place.Part.TheVariants as part
-use Rattle.cl_model.specs.declared.refusal.Code.TheVariants.{M24}
-use Rattle.cl_model.specs.Named.{runnable_names}
-use Rattle.cl_model.specs.Place.{entry_of, at_key, at_sub}
+use Rattle.cl_model.specs.{declared.refusal.Code.TheVariants.M24, Named.runnable_names, Place.{entry_of, at_key, at_sub}}
 use Rattle.cl_valid.proofs.AddedNames.{name_at, name_below, name_past, none_added, one_added, one_refused, all_pass, all_added}
 use Rattle.cl_valid.proofs.names.add_runnables.Goals as goal
 

@@ -1,8 +1,6 @@
 use Rattle.cl_model.specs.declared.place.Key.TheVariants as key
 use Rattle.cl_model.specs.declared.place.Part.TheVariants as part
-use Rattle.cl_model.specs.declared.refusal.Code.TheVariants.{M24}
-use Rattle.cl_model.specs.Named.{runnable_names}
-use Rattle.cl_model.specs.Place.{entry_of, at_key, at_sub}
+use Rattle.cl_model.specs.{declared.refusal.Code.TheVariants.M24, Named.runnable_names, Place.{entry_of, at_key, at_sub}}
 use Rattle.cl_valid.proofs.AddedNames.{AreAdded}
 use Rattle.cl_valid.proofs.names.add_runnables.Given as goal
 

@@ -1,7 +1,5 @@
 use Rattle.std.proofs.Common.{◌≡◌, ◌++◌, take, drop}
-use Rattle.cl_model.specs.Named.{labels_written}
-use Rattle.cl_model.specs.Refusals.{each_from}
-use Rattle.cl_model.specs.ValidTasks.{body_check, body_checks}
+use Rattle.cl_model.specs.{Named.labels_written, Refusals.each_from, ValidTasks.{body_check, body_checks}}
 use Rattle.cl_valid.specs.Inner.Tables.{uses_of}
 use Rattle.cl_valid.proofs.runnables.check_body.Given as goal
 

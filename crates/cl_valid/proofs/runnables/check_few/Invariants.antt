@@ -1,9 +1,5 @@
 use Rattle.std.proofs.Common.{◌≡◌, [], drop}
-use Rattle.cl_model.specs.declared.refusal.Code.TheVariants.{M39}
-use Rattle.cl_model.specs.Place.{at_spot}
-use Rattle.cl_model.specs.Refusals.{each_from}
-use Rattle.cl_model.specs.ValidNames.{repeat_check}
-use Rattle.cl_model.specs.ValidTasks.{twice_check}
+use Rattle.cl_model.specs.{declared.refusal.Code.TheVariants.M39, Place.at_spot, Refusals.each_from, ValidNames.repeat_check, ValidTasks.twice_check}
 use Rattle.cl_valid.proofs.runnables.check_few.Given as goal
 
 -- what is refused in all is what is refused in the rest

@@ -1,7 +1,6 @@
 use Rattle.std.proofs.Common.{[]}
 use Rattle.std.proofs.lemmas.Result.{err_from_is_err_and}
-use Rattle.cl_model.specs.declared.refusal.Code.TheVariants.{M39}
-use Rattle.cl_model.specs.Place.{at_spot}
+use Rattle.cl_model.specs.{declared.refusal.Code.TheVariants.M39, Place.at_spot}
 use Rattle.cl_valid.proofs.AddedNames.{none_added, one_added, one_refused, all_pass, all_added}
 use Rattle.cl_valid.proofs.runnables.distinct_many.Goals as goal
 

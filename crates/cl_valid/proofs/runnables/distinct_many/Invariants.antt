@@ -1,6 +1,5 @@
 use Rattle.std.proofs.Common.{[]}
-use Rattle.cl_model.specs.declared.refusal.Code.TheVariants.{M39}
-use Rattle.cl_model.specs.Place.{at_spot}
+use Rattle.cl_model.specs.{declared.refusal.Code.TheVariants.M39, Place.at_spot}
 use Rattle.cl_valid.proofs.AddedNames.{AreAdded}
 use Rattle.cl_valid.proofs.runnables.distinct_many.Given as goal
 

@@ -1,6 +1,5 @@
 use Rattle.std.proofs.Common.{◌≡◌, drop}
-use Rattle.cl_model.specs.Refusals.{each, each_from}
-use Rattle.cl_model.specs.ValidNames.{offset_check}
+use Rattle.cl_model.specs.{Refusals.{each, each_from}, ValidNames.offset_check}
 use Rattle.cl_valid.proofs.stimuli.check_offsets.Given as goal
 
 -- what is refused in all is what is refused in the rest

@@ -2,14 +2,10 @@ use Rattle.std.proofs.Common.{◌+◌, set, get_or, take, [], ◌∷◌, ◌++�
 use Rattle.std.proofs.lemmas.Option.{slice_get_within, get_or_from_slice_get}
 use Rattle.std.proofs.lemmas.Result.{err_from_is_err_and}
 use Rattle.cl_model.specs.declared.place.Part.TheVariants as part
-use Rattle.cl_model.specs.Named.{core_names, label_names, labels_written, all_runnables}
-use Rattle.cl_model.specs.Place.{entry_of}
-use Rattle.cl_model.specs.ValidTasks.{naming_checks, body_checks, count_check, task_check}
+use Rattle.cl_model.specs.{Named.{core_names, label_names, labels_written, all_runnables}, Place.entry_of, ValidTasks.{naming_checks, body_checks, count_check, task_check}}
 use Rattle.cl_model.proofs.FirstRefusals.{fault_of_front, fault_of_back, none_of_both}
-use Rattle.cl_valid.specs.declared.names.Names.{Names}
-use Rattle.cl_valid.specs.declared.tasks.TasksSoFar.{TasksSoFar}
-use Rattle.cl_valid.proofs.TasksByShare.{shares_more}
-use Rattle.cl_valid.proofs.UsesByTask.{count_is, kept_is, labels_of_more, uses_of_more}
+use Rattle.cl_valid.specs.declared.{names.Names.Names, tasks.TasksSoFar.TasksSoFar}
+use Rattle.cl_valid.proofs.{TasksByShare.shares_more, UsesByTask.{count_is, kept_is, labels_of_more, uses_of_more}}
 use Rattle.cl_valid.proofs.tasks.check_task.Goals as goal
 
 pub returns-clause-kept : goal.returns-clause-kept

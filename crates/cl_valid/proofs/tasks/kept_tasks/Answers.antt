@@ -6,8 +6,7 @@ use Rattle.std.proofs.lemmas.Result.{err_from_is_err_and}
 use Rattle.cl_model.specs.ValidTasks.{task_check}
 use Rattle.cl_model.proofs.FirstRefusals.{all_checked, next_passes, next_refused}
 use Rattle.cl_valid.specs.Inner.Tables.{kept_of}
-use Rattle.cl_valid.proofs.TasksByShare.{no_shares}
-use Rattle.cl_valid.proofs.UsesByTask.{kept_is}
+use Rattle.cl_valid.proofs.{TasksByShare.no_shares, UsesByTask.kept_is}
 use Rattle.cl_valid.proofs.tasks.kept_tasks.Goals as goal
 
 pub loop-i-init : goal.loop-i-init

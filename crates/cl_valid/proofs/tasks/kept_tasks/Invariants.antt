@@ -1,6 +1,5 @@
 use Rattle.std.proofs.Common.{◌≡◌, take, drop}
-use Rattle.cl_model.specs.Refusals.{each_from}
-use Rattle.cl_model.specs.ValidTasks.{task_check, task_checks}
+use Rattle.cl_model.specs.{Refusals.each_from, ValidTasks.{task_check, task_checks}}
 use Rattle.cl_valid.specs.Inner.Tables.{kept_of}
 use Rattle.cl_valid.proofs.tasks.kept_tasks.Given as goal
 

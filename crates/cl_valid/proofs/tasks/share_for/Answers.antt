@@ -1,7 +1,6 @@
 use Rattle.std.proofs.Common.{take, ap, ◌∙◌}
 use Rattle.std.proofs.lemmas.Result.{err_from_is_err_and}
-use Rattle.cl_model.specs.Named.{core_names, kind_named}
-use Rattle.cl_model.specs.ValidTasks.{core_check, stimulus_check, naming_checks}
+use Rattle.cl_model.specs.{Named.{core_names, kind_named}, ValidTasks.{core_check, stimulus_check, naming_checks}}
 use Rattle.cl_model.proofs.FirstRefusals.{fault_of_front, fault_of_back, none_of_both}
 use Rattle.cl_valid.specs.declared.names.Names.{Names}
 use Rattle.cl_valid.proofs.TasksByShare.{shares_at, naming_is}

@@ -1,8 +1,6 @@
 use Rattle.std.proofs.lemmas.Result.{err_from_is_err_and}
-use Rattle.cl_model.specs.ValidNames.{name_checks}
-use Rattle.cl_model.specs.Validity.{refusals_of}
-use Rattle.cl_model.proofs.FirstRefusals.{fault_of_front, answers_behind}
-use Rattle.cl_model.proofs.NamesApart.{cores_differ}
+use Rattle.cl_model.specs.{ValidNames.name_checks, Validity.refusals_of}
+use Rattle.cl_model.proofs.{FirstRefusals.{fault_of_front, answers_behind}, NamesApart.cores_differ}
 use Rattle.cl_valid.proofs.validation.check.Goals as goal
 
 pub returns-in_err-names : goal.returns-in_err-names

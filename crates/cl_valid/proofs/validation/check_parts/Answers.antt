@@ -1,6 +1,5 @@
 use Rattle.std.proofs.lemmas.Result.{err_from_is_err_and}
-use Rattle.cl_model.specs.ValidNames.{stimulus_checks}
-use Rattle.cl_model.specs.ValidTasks.{task_checks}
+use Rattle.cl_model.specs.{ValidNames.stimulus_checks, ValidTasks.task_checks}
 use Rattle.cl_model.proofs.FirstRefusals.{fault_of_front, fault_of_back, answers_behind}
 use Rattle.cl_valid.proofs.validation.check_parts.Goals as goal
 

@@ -2,8 +2,7 @@ use Rattle.std.proofs.Common.{ℕ, ◌<◌, Option, unwrap_or, List, length, sym
 use Rattle.std.specs.Prelude.{IfSome}
 use Rattle.cl_model.specs.Groups.{groups_at}
 use Rattle.cl_runs.specs.Requirements.{HasLength}
-use Rattle.cl_bound.specs.declared.answer.TaskAnswer.{TaskAnswer}
-use Rattle.cl_bound.specs.Answers.{NoneIsLate}
+use Rattle.cl_bound.specs.{declared.answer.TaskAnswer.TaskAnswer, Answers.NoneIsLate}
 use Rattle.cl_analyse.specs.ChainAnswers.{chain_answer_at}
 use Rattle.cl_tight.specs.TightFindings.{tight_chain_answers_of}
 use Rattle.cl_tight.proofs.TightChains.{tight_given}

@@ -1,17 +1,12 @@
 use Rattle.std.proofs.Common.{◌≡◌, ℕ, ◌<◌, List, length, get_or, sym, ap, ◌∙◌, subst, arith}
 use Rattle.std.specs.Prelude.{None}
 use Rattle.std.proofs.lemmas.List.{get_or_default}
-use Rattle.cl_model.specs.declared.model.SystemModel.{SystemModel}
-use Rattle.cl_model.specs.declared.chain.RequirementDef.{RequirementDef}
+use Rattle.cl_model.specs.declared.{model.SystemModel.SystemModel, chain.RequirementDef.RequirementDef}
 use Rattle.cl_runs.specs.Requirements.{required_chain}
-use Rattle.cl_analyse.specs.declared.findings.Verdict.{Verdict}
-use Rattle.cl_analyse.specs.declared.findings.Verdict.TheVariants.{Unshown}
-use Rattle.cl_analyse.specs.Verdicts.{verdict_at}
-use Rattle.cl_tight.specs.declared.findings.TightFindings.{TightFindings}
-use Rattle.cl_tight.specs.TightFindings.{tight_findings_of}
+use Rattle.cl_analyse.specs.{declared.findings.Verdict.{Verdict, TheVariants.Unshown}, Verdicts.verdict_at}
+use Rattle.cl_tight.specs.{declared.findings.TightFindings.TightFindings, TightFindings.tight_findings_of}
 use Rattle.cl_tight.proofs.TightLists.{required_known}
-use Rattle.cl_report.proofs.ReportLines.{requirement_found}
-use Rattle.cl_report.proofs.TightLines.{tight_verdicts_found}
+use Rattle.cl_report.proofs.{ReportLines.requirement_found, TightLines.tight_verdicts_found}
 use Rattle.cl_verify.proofs.ByFindings.{met_decided, broken_decided, unshown_decided}
 use Rattle.cl_verify.proofs.deciding.decide_requirement.Goals as goal
 

@@ -1,9 +1,7 @@
 use Rattle.cl_runs.specs.Requirements.{requirement_at}
 use Rattle.cl_analyse.specs.Verdicts.{verdict_at}
 use Rattle.cl_tight.specs.TightFindings.{tight_findings_of}
-use Rattle.cl_verify.specs.declared.decision.Decision.TheVariants.{Late}
-use Rattle.cl_verify.specs.Decisions.{IsDecisionOn}
-use Rattle.cl_verify.specs.KnownLengths.{AreRunsOf}
+use Rattle.cl_verify.specs.{declared.decision.Decision.TheVariants.Late, Decisions.IsDecisionOn, KnownLengths.AreRunsOf}
 use Rattle.cl_verify.proofs.Made.{AreMade}
 use Rattle.cl_verify.proofs.deciding.decide_requirements.Given as goal
 

@@ -1,8 +1,6 @@
 use Rattle.cl_bound.specs.Answers.{answer_at}
 use Rattle.cl_tight.specs.TightFindings.{tight_findings_of}
-use Rattle.cl_verify.specs.declared.decision.TaskDecision.TheVariants.{Broken}
-use Rattle.cl_verify.specs.Decisions.{IsDecisionOnTask}
-use Rattle.cl_verify.specs.KnownLengths.{AreRunsOf}
+use Rattle.cl_verify.specs.{declared.decision.TaskDecision.TheVariants.Broken, Decisions.IsDecisionOnTask, KnownLengths.AreRunsOf}
 use Rattle.cl_verify.proofs.Made.{AreMade}
 use Rattle.cl_verify.proofs.deciding.decide_tasks.Given as goal
 

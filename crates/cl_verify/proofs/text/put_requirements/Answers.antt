@@ -3,9 +3,7 @@ use Rattle.cl_model.specs.declared.chain.RequirementDef.{RequirementDef}
 use Rattle.cl_runs.specs.Requirements.{requirement_at}
 use Rattle.cl_text.proofs.MoreLines.{line_more}
 use Rattle.cl_report.proofs.ReportLines.{requirement_found}
-use Rattle.cl_verify.specs.declared.decision.Decision.{Decision}
-use Rattle.cl_verify.specs.Decisions.{decision_at}
-use Rattle.cl_verify.specs.VerifyText.{decision_line}
+use Rattle.cl_verify.specs.{declared.decision.Decision.Decision, Decisions.decision_at, VerifyText.decision_line}
 use Rattle.cl_verify.proofs.DecisionLines.{decision_found, late_known}
 use Rattle.cl_verify.proofs.text.put_requirements.Goals as goal
 

@@ -1,8 +1,6 @@
 use Rattle.std.proofs.Common.{ℕ, ◌<◌, ◌++◌, length, ap, ◌∙◌, arith}
 use Rattle.cl_text.proofs.MoreLines.{line_more}
-use Rattle.cl_verify.specs.declared.decision.TaskDecision.{TaskDecision}
-use Rattle.cl_verify.specs.Decisions.{task_decision_at}
-use Rattle.cl_verify.specs.VerifyText.{task_decision_line}
+use Rattle.cl_verify.specs.{declared.decision.TaskDecision.TaskDecision, Decisions.task_decision_at, VerifyText.task_decision_line}
 use Rattle.cl_verify.proofs.DecisionLines.{task_decision_found}
 use Rattle.cl_verify.proofs.text.put_tasks.Goals as goal
 

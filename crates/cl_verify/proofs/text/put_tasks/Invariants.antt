@@ -1,7 +1,6 @@
 use Rattle.std.proofs.Common.{◌≡◌, ◌++◌}
 use Rattle.std.specs.List.{flat_map, range_with_len}
-use Rattle.cl_verify.specs.Decisions.{task_decision_at}
-use Rattle.cl_verify.specs.VerifyText.{task_decision_line}
+use Rattle.cl_verify.specs.{Decisions.task_decision_at, VerifyText.task_decision_line}
 use Rattle.cl_verify.proofs.text.put_tasks.Given as goal
 
 abbrev pub invariant-loop-task : goal.invariant-loop-task

@@ -1,8 +1,7 @@
 use Rattle.std.proofs.Common.{◌≡◌, ◌+◌, ◌-◌, ◌≤◌, ◌++◌, length, codes}
 use Rattle.std.specs.List.{flat_map, range_with_len}
 use Rattle.cl_model.specs.Groups.{groups_at}
-use Rattle.cl_why.specs.Hops.{timing_at_place, missed_at}
-use Rattle.cl_why.specs.Walks.{job_line}
+use Rattle.cl_why.specs.{Hops.{timing_at_place, missed_at}, Walks.job_line}
 use Rattle.cl_why.proofs.walks.put_missed.Given as goal
 
 abbrev pub invariant-loop-place : goal.invariant-loop-place

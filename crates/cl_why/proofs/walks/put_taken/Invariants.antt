@@ -1,7 +1,6 @@
 use Rattle.std.proofs.Common.{◌≡◌, ◌++◌, codes}
 use Rattle.std.specs.List.{flat_map, range_with_len}
-use Rattle.cl_why.specs.Hops.{timing_at_place, taken_at}
-use Rattle.cl_why.specs.Walks.{job_line}
+use Rattle.cl_why.specs.{Hops.{timing_at_place, taken_at}, Walks.job_line}
 use Rattle.cl_why.proofs.walks.put_taken.Given as goal
 
 abbrev pub invariant-loop-place : goal.invariant-loop-place

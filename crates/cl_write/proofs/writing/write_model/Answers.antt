@@ -1,11 +1,8 @@
 use Rattle.std.proofs.Common.{List, ℕ, ap, subst, sym, ◌++◌, ◌∙◌, false}
 use Rattle.toml.specs.Text.{IsDocumentText}
 use Rattle.cl_model.specs.Reading.{document_of}
-use Rattle.cl_write.specs.Inner.Printed.{model_text}
-use Rattle.cl_write.specs.Writing.{document}
-use Rattle.cl_write.proofs.PrintedModel.{is_document_text}
-use Rattle.cl_write.proofs.ReadBack.{reads_as_model, reads_as_version}
-use Rattle.cl_write.proofs.SomeTexts.{printed_document}
+use Rattle.cl_write.specs.{Inner.Printed.model_text, Writing.document}
+use Rattle.cl_write.proofs.{PrintedModel.is_document_text, ReadBack.{reads_as_model, reads_as_version}, SomeTexts.printed_document}
 use Rattle.cl_write.proofs.writing.write_model.Goals as goal
 
 pub returns-clause-reads : goal.returns-clause-reads

@@ -1,8 +1,7 @@
 use Rattle.std.proofs.Common.{sym, ap, ◌∙◌, subst, Option}
 use Rattle.std.specs.Option.{option_to_list}
 use Rattle.cl_model.proofs.ValidTasks.{kind_in_range, kind_ordered}
-use Rattle.cl_stim.specs.declared.phase.Phase.{Phase}
-use Rattle.cl_stim.specs.Phase.{phase_of}
+use Rattle.cl_stim.specs.{declared.phase.Phase.Phase, Phase.phase_of}
 use Rattle.cl_cycle.specs.Inner.Gathering.{AreTogether}
 use Rattle.cl_cycle.proofs.GatheredNumbers.{pattern_is}
 use Rattle.cl_cycle.proofs.cycle.Cycle.alone.Goals as goal

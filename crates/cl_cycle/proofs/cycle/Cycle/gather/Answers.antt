@@ -1,8 +1,7 @@
 use Rattle.std.proofs.Common.{arith}
 use Rattle.cl_runs.specs.SystemOf.{system_of}
 use Rattle.cl_cycle.specs.Cycles.{phases_with}
-use Rattle.cl_cycle.proofs.GatheredPhases.{some_ticks}
-use Rattle.cl_cycle.proofs.GatheredPeriods.{room_first, room_now, room_next, gathered_first, gathered_next, gathered_last}
+use Rattle.cl_cycle.proofs.{GatheredPhases.some_ticks, GatheredPeriods.{room_first, room_now, room_next, gathered_first, gathered_next, gathered_last}}
 use Rattle.cl_cycle.proofs.cycle.Cycle.gather.Goals as goal
 
 pub loop-next-init : goal.loop-next-init

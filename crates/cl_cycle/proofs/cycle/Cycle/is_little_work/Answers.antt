@@ -1,17 +1,12 @@
 use Rattle.std.proofs.Common.{◌≡◌, ℕ, ◌+◌, ◌-◌, ◌^◌, true, min, List, get_or, take, sym, ap, ◌∙◌, subst, take_all, arith}
 use Rattle.std.specs.List.{filter}
-use Rattle.cl_model.specs.declared.stimulus.StimulusKind.{StimulusKind}
-use Rattle.cl_model.specs.ByNumber.{stimulus_of, deadline_of, tasks_of_core}
-use Rattle.cl_stim.specs.declared.any_stimulus.AnyStimulus.{AnyStimulus}
-use Rattle.cl_stim.specs.AnyStimulus.{kind_of}
-use Rattle.cl_stim.specs.Releases.{most_releases}
-use Rattle.cl_stim.specs.Stimulus.{IsStimulus}
+use Rattle.cl_model.specs.{declared.stimulus.StimulusKind.StimulusKind, ByNumber.{stimulus_of, deadline_of, tasks_of_core}}
+use Rattle.cl_stim.specs.{declared.any_stimulus.AnyStimulus.AnyStimulus, AnyStimulus.kind_of, Releases.most_releases, Stimulus.IsStimulus}
 use Rattle.cl_stim.proofs.ValidStimuli.{has_stimulus}
-use Rattle.cl_cycle.specs.Inner.Gathering.{has_higher, tasks_beside}
-use Rattle.cl_cycle.specs.Cycles.{is_one_of}
-use Rattle.cl_cycle.proofs.GatheredWork.{kind_of-as_stimulus, counts_by_most, most_of, counts, counts_not_taken, counts_not_below, most_more, most_same, capped_more, deadline_few, little_is}
+use Rattle.cl_cycle.specs.{Inner.Gathering.{has_higher, tasks_beside}, Cycles.is_one_of}
+use Rattle.cl_cycle.proofs.{GatheredWork.{kind_of-as_stimulus, counts_by_most, most_of, counts, counts_not_taken, counts_not_below, most_more, most_same, capped_more, deadline_few, little_is}, cycle.Cycle.is_little_work.Goals.{then-is_above+then-not-has, else-is_above}}
+use Rattle.cl_cycle.proofs.cycle.Cycle.is_little_work.Goals.{else-is_above-via-then-is_above+else-not-has, else-is_above-via-else-is_above}
 use Rattle.cl_cycle.proofs.cycle.Cycle.is_little_work.Goals as goal
-use Rattle.cl_cycle.proofs.cycle.Cycle.is_little_work.Goals.{then-is_above+then-not-has, else-is_above, else-is_above-via-then-is_above+else-not-has, else-is_above-via-else-is_above}
 
 pub of-requires : goal.of-requires
 of-requires c =

@@ -2,12 +2,9 @@ use Rattle.std.proofs.Common.{◌≡◌, ℕ, ◌+◌, ◌<◌, true, false, Lis
 use Rattle.std.specs.List.{filter, fold}
 use Rattle.cl_model.specs.ByNumber.{tasks_of_core}
 use Rattle.cl_runs.specs.SystemOf.{system_of}
-use Rattle.cl_cycle.specs.Cycles.{joined_by}
-use Rattle.cl_cycle.specs.Inner.Gathering.{is_above_with, tasks_beside, IsGathered}
-use Rattle.cl_cycle.proofs.GatheredLists.{fold_more_yes, fold_more_no, length_more_yes, length_more_le, length_taken}
-use Rattle.cl_cycle.proofs.GatheredNumbers.{has_period, has_other_period, has_no_period, fixed_above}
+use Rattle.cl_cycle.specs.{Cycles.joined_by, Inner.Gathering.{is_above_with, tasks_beside, IsGathered}}
+use Rattle.cl_cycle.proofs.{GatheredLists.{fold_more_yes, fold_more_no, length_more_yes, length_more_le, length_taken}, GatheredNumbers.{has_period, has_other_period, has_no_period, fixed_above}, cycle.Cycle.join_all.Goals.{in-Some+then-phase-period, in-Some+else-phase-period, in_default}}
 use Rattle.cl_cycle.proofs.cycle.Cycle.join_all.Goals as goal
-use Rattle.cl_cycle.proofs.cycle.Cycle.join_all.Goals.{in-Some+then-phase-period, in-Some+else-phase-period, in_default}
 
 pub join-requires-clause-room : goal.join-requires-clause-room
 join-requires-clause-room c =

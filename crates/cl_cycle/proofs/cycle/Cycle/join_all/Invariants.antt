@@ -2,8 +2,7 @@ use Rattle.std.proofs.Common.{ℕ, ◌+◌, ◌≤◌, List, length, take}
 use Rattle.std.specs.List.{filter, fold}
 use Rattle.arrayvec.specs.ArrayVec.{array_vec_len}
 use Rattle.cl_runs.specs.SystemOf.{system_of}
-use Rattle.cl_cycle.specs.Cycles.{joined_by}
-use Rattle.cl_cycle.specs.Inner.Gathering.{is_above_with, IsGathered}
+use Rattle.cl_cycle.specs.{Cycles.joined_by, Inner.Gathering.{is_above_with, IsGathered}}
 use Rattle.cl_cycle.proofs.cycle.Cycle.join_all.Given as goal
 
 -- those of this period so far have joined where they come round soon

@@ -1,7 +1,6 @@
 use Rattle.std.proofs.Common.{subst, sym, Option}
 use Rattle.std.specs.Option.{option_to_list, IfSome}
-use Rattle.cl_stim.specs.declared.phase.Phase.{Phase}
-use Rattle.cl_stim.specs.Phase.{IsPhaseInRange}
+use Rattle.cl_stim.specs.{declared.phase.Phase.Phase, Phase.IsPhaseInRange}
 use Rattle.cl_cycle.specs.Inner.Gathering.{AreTogether}
 use Rattle.cl_cycle.proofs.GatheredPhases.{none_together, one_together}
 use Rattle.cl_cycle.proofs.cycle.Together.begin.Goals as goal

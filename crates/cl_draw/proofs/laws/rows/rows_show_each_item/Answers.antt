@@ -2,9 +2,7 @@ use Rattle.std.proofs.Common.{List, map, subst, sym}
 use Rattle.std.specs.Prelude.{filter}
 use Rattle.cl_model.specs.ByNumber.{deadline_of, task_at}
 use Rattle.cl_runs.specs.Run.{jobs_of}
-use Rattle.cl_picture.specs.declared.item.Bar.{Bar}
-use Rattle.cl_picture.specs.Bars.{counts}
-use Rattle.cl_picture.specs.Shown.{AreBarsOf}
+use Rattle.cl_picture.specs.{declared.item.Bar.Bar, Bars.counts, Shown.AreBarsOf}
 use Rattle.cl_picture.proofs.BarItems.{bars_are}
 use Rattle.cl_draw.specs.Items.{bands, part_item}
 use Rattle.cl_draw.proofs.laws.rows.rows_show_each_item.Goals as goal

@@ -1,7 +1,6 @@
 use Rattle.std.proofs.Common.{sym, ap, ◌∙◌, subst}
 use Rattle.std.specs.Prelude.{◌≡◌, IfOk}
-use Rattle.cl_edit.specs.declared.change.Change.{Change}
-use Rattle.cl_edit.specs.Changing.{with_change, MayBeMade}
+use Rattle.cl_edit.specs.{declared.change.Change.Change, Changing.{with_change, MayBeMade}}
 use Rattle.cl_edit.proofs.change.Change.make.Goals as goal
 
 pub with_range-requires-clause-step : goal.with_range-requires-clause-step

@@ -1,10 +1,7 @@
 use Rattle.std.proofs.Common.{◌≡◌, ◌≢◌, [], length, ap, arith}
 use Rattle.std.specs.Prelude.{Err}
-use Rattle.cl_edit.specs.declared.version.Version.TheVariants.{One}
-use Rattle.cl_edit.specs.Inner.Left.{said_in}
-use Rattle.cl_edit.proofs.FirstLists.{said_at}
-use Rattle.cl_edit.proofs.CursorFacts.{none_left, taken_ended, taken_last, reads_first, says_none, last_says_none, last_says_nothing, nothing}
-use Rattle.cl_edit.proofs.Unreads.{kept_fault}
+use Rattle.cl_edit.specs.{declared.version.Version.TheVariants.One, Inner.Left.said_in}
+use Rattle.cl_edit.proofs.{FirstLists.said_at, CursorFacts.{none_left, taken_ended, taken_last, reads_first, says_none, last_says_none, last_says_nothing, nothing}, Unreads.kept_fault}
 use Rattle.cl_edit.proofs.cursor.Cursor.next_ended.Goals as goal
 
 pub returns-in_default-clause-next : goal.returns-in_default-clause-next

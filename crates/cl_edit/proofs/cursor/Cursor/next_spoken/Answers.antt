@@ -1,11 +1,7 @@
 use Rattle.std.proofs.Common.{◌≡◌, true, false, ap, sym, ◌∙◌}
 use Rattle.std.specs.Prelude.{Err}
-use Rattle.cl_edit.specs.declared.version.Version.TheVariants.{Two}
-use Rattle.cl_edit.specs.Said.{plain, says}
-use Rattle.cl_edit.specs.Inner.Left.{said_in}
-use Rattle.cl_edit.proofs.FirstLists.{said_at}
-use Rattle.cl_edit.proofs.CursorFacts.{none_left, taken_spoken, taken_unspoken, reads_first, says_none}
-use Rattle.cl_edit.proofs.Unreads.{kept_fault}
+use Rattle.cl_edit.specs.{declared.version.Version.TheVariants.Two, Said.{plain, says}, Inner.Left.said_in}
+use Rattle.cl_edit.proofs.{FirstLists.said_at, CursorFacts.{none_left, taken_spoken, taken_unspoken, reads_first, says_none}, Unreads.kept_fault}
 use Rattle.cl_edit.proofs.cursor.Cursor.next_spoken.Goals as goal
 
 pub returns-in_err-read_said-clause-bad_line : goal.returns-in_err-read_said-clause-bad_line

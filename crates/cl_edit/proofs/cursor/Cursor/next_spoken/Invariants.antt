@@ -1,6 +1,5 @@
 use Rattle.std.proofs.Common.{◌≡◌, length}
-use Rattle.cl_edit.specs.declared.version.Version.TheVariants.{Two}
-use Rattle.cl_edit.specs.Inner.Left.{lines_left, said_in, HasNumbers}
+use Rattle.cl_edit.specs.{declared.version.Version.TheVariants.Two, Inner.Left.{lines_left, said_in, HasNumbers}}
 use Rattle.cl_edit.proofs.cursor.Cursor.next_spoken.Given as goal
 
 -- the lines so far say nothing

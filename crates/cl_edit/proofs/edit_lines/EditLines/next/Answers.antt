@@ -1,7 +1,6 @@
 use Rattle.std.proofs.Common.{◌≡◌, ap, subst}
 use Rattle.std.specs.Prelude.{Err}
-use Rattle.cl_edit.specs.Listed.{GivesNext}
-use Rattle.cl_edit.specs.Inner.Left.{edits_left}
+use Rattle.cl_edit.specs.{Listed.GivesNext, Inner.Left.edits_left}
 use Rattle.cl_edit.proofs.ReadLines.{left_by, gives_next, none_stuck}
 use Rattle.cl_edit.proofs.edit_lines.EditLines.next.Goals as goal
 

@@ -1,8 +1,7 @@
 use Rattle.std.proofs.Common.{◌≡◌, [], ap}
 use Rattle.std.specs.Prelude.{Err}
 use Rattle.cl_edit.specs.Inner.Left.{said_left}
-use Rattle.cl_edit.proofs.ReadLines.{one_read, stuck_read, full_read, all_read, all_left, none_next}
-use Rattle.cl_edit.proofs.Unreads.{kept_fault}
+use Rattle.cl_edit.proofs.{ReadLines.{one_read, stuck_read, full_read, all_read, all_left, none_next}, Unreads.kept_fault}
 use Rattle.cl_edit.proofs.edit_lines.EditLines.of.Goals as goal
 
 pub returns-in_err-listed-clause-bad_line : goal.returns-in_err-listed-clause-bad_line

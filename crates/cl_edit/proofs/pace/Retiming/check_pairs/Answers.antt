@@ -1,8 +1,6 @@
 use Rattle.std.proofs.Common.{sym, subst}
-use Rattle.cl_model.specs.declared.model_fault.ModelFault.{ModelFault}
-use Rattle.cl_model.specs.Answers.{IsFaultOf}
-use Rattle.cl_edit.specs.Inner.Paces.{with_retiming}
-use Rattle.cl_edit.specs.Inner.Pairs.{pair_checks}
+use Rattle.cl_model.specs.{declared.model_fault.ModelFault.ModelFault, Answers.IsFaultOf}
+use Rattle.cl_edit.specs.Inner.{Paces.with_retiming, Pairs.pair_checks}
 use Rattle.cl_edit.proofs.RefusedTasks.{first_answers, none_refused}
 use Rattle.cl_edit.proofs.pace.Retiming.check_pairs.Goals as goal
 

@@ -1,8 +1,7 @@
 use Rattle.std.proofs.Common.{sym, ◌∙◌}
 use Rattle.cl_edit.specs.Inner.Paces.{with_retiming}
-use Rattle.cl_edit.proofs.RefusedPairs.{on_more, on_past}
+use Rattle.cl_edit.proofs.{RefusedPairs.{on_more, on_past}, pace.Retiming.first_on.Goals.{then-is_on, else-is_on}}
 use Rattle.cl_edit.proofs.pace.Retiming.first_on.Goals as goal
-use Rattle.cl_edit.proofs.pace.Retiming.first_on.Goals.{then-is_on, else-is_on}
 
 pub loop-task-preserved : goal.loop-task-preserved
 loop-task-preserved c =

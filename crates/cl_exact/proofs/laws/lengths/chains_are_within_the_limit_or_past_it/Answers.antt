@@ -1,5 +1,4 @@
-use Rattle.cl_exact.proofs.ExactOnce.{within_or_past}
-use Rattle.cl_exact.proofs.SomeExact.{within_or_past_limit}
+use Rattle.cl_exact.proofs.{ExactOnce.within_or_past, SomeExact.within_or_past_limit}
 use Rattle.cl_exact.proofs.laws.lengths.chains_are_within_the_limit_or_past_it.Goals as goal
 
 pub returns-clause-not_both : goal.returns-clause-not_both

@@ -1,6 +1,5 @@
 use Rattle.std.proofs.Common.{ℕ, ◌+◌, ◌-◌, ◌%◌, ap, ◌∙◌}
-use Rattle.rand_pcg.specs.Lcg.{Lcg, next}
-use Rattle.rand_pcg.specs.Pcg.{multiplier_128, pcg64}
+use Rattle.rand_pcg.specs.{Lcg.{Lcg, next}, Pcg.{multiplier_128, pcg64}}
 use Rattle.cl_gen.specs.Words.{Taken, word_of, draw}
 use Rattle.cl_gen.proofs.Words.{next_generator}
 use Rattle.cl_gen.proofs.draws.Draws.draw.Goals as goal

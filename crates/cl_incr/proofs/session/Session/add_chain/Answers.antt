@@ -2,15 +2,10 @@ use Rattle.std.proofs.Common.{◌≡◌, ◌<◌, List, length, sym, ap, ◌∙�
 use Rattle.std.specs.Prelude.{IfSome}
 use Rattle.cl_model.specs.declared.model.SystemModel.{SystemModel}
 use Rattle.cl_runs.specs.SystemOf.{system_of}
-use Rattle.cl_bound.specs.declared.answer.TaskAnswer.{TaskAnswer}
-use Rattle.cl_bound.specs.Answers.{answers_of}
+use Rattle.cl_bound.specs.{declared.answer.TaskAnswer.TaskAnswer, Answers.answers_of}
 use Rattle.cl_edit.specs.Changing.{with_change, MayBeMade}
-use Rattle.cl_analyse.specs.declared.findings.Findings.{Findings}
-use Rattle.cl_analyse.specs.Findings.{AreFindings}
-use Rattle.cl_incr.specs.Changed.{AsksForChanges}
-use Rattle.cl_incr.specs.SessionState.{SessionState}
-use Rattle.cl_incr.specs.Inner.Kept.{AreFoundOf}
-use Rattle.cl_incr.specs.Inner.IsTwin.{IsTwinOf}
+use Rattle.cl_analyse.specs.{declared.findings.Findings.Findings, Findings.AreFindings}
+use Rattle.cl_incr.specs.{Changed.AsksForChanges, SessionState.SessionState, Inner.{Kept.AreFoundOf, IsTwin.IsTwinOf}}
 use Rattle.cl_incr.proofs.AskedSteps.{asks_for_chain}
 use Rattle.cl_incr.proofs.session.Session.add_chain.Goals as goal
 

@@ -1,7 +1,6 @@
 use Rattle.std.proofs.Common.{subst, arith}
 use Rattle.cl_model.specs.Validity.{IsValid}
-use Rattle.cl_incr.proofs.AskedSteps.{asks_nothing}
-use Rattle.cl_incr.proofs.Reports.{same_model}
+use Rattle.cl_incr.proofs.{AskedSteps.asks_nothing, Reports.same_model}
 use Rattle.cl_incr.proofs.session.Session.apply.Goals as goal
 
 pub returns-in-Report-clause-model : goal.returns-in-Report-clause-model

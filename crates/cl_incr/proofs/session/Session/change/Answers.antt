@@ -1,10 +1,8 @@
 use Rattle.std.proofs.Common.{◌≡◌, sym, ap, subst, ◌∙◌, arith, Ok}
 use Rattle.cl_model.specs.declared.model.SystemModel.{SystemModel}
-use Rattle.cl_edit.specs.Changing.{with_change}
-use Rattle.cl_edit.specs.Edited.{edited}
+use Rattle.cl_edit.specs.{Changing.with_change, Edited.edited}
 use Rattle.cl_incr.specs.SessionState.{SessionState}
-use Rattle.cl_incr.proofs.AskedSteps.{asks_nothing}
-use Rattle.cl_incr.proofs.CheckedEdits.{asks_changed}
+use Rattle.cl_incr.proofs.{AskedSteps.asks_nothing, CheckedEdits.asks_changed}
 use Rattle.cl_incr.proofs.session.Session.change.Goals as goal
 
 pub returns-in_err-change-clause-steps : goal.returns-in_err-change-clause-steps

@@ -4,8 +4,7 @@ use Rattle.cl_model.specs.declared.model.SystemModel.{SystemModel}
 use Rattle.cl_bound.specs.declared.answer.TaskAnswer.{TaskAnswer}
 use Rattle.cl_edit.specs.Changing.{with_change, MayBeMade}
 use Rattle.cl_analyse.specs.Findings.{AreFindings}
-use Rattle.cl_incr.specs.SessionState.{SessionState}
-use Rattle.cl_incr.specs.Inner.IsTwin.{IsTwinOf}
+use Rattle.cl_incr.specs.{SessionState.SessionState, Inner.IsTwin.IsTwinOf}
 use Rattle.cl_incr.proofs.session.Session.drop_chain.Goals as goal
 
 pub drop_chain-requires : goal.drop_chain-requires

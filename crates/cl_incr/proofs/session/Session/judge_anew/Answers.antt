@@ -3,10 +3,8 @@ use Rattle.std.specs.Prelude.{IfSome}
 use Rattle.cl_model.specs.declared.model.SystemModel.{SystemModel}
 use Rattle.cl_bound.specs.declared.answer.TaskAnswer.{TaskAnswer}
 use Rattle.cl_edit.specs.Changing.{with_change, MayBeMade}
-use Rattle.cl_analyse.specs.declared.findings.Findings.{Findings}
-use Rattle.cl_analyse.specs.Findings.{AreFindings}
-use Rattle.cl_incr.specs.SessionState.{SessionState}
-use Rattle.cl_incr.specs.Inner.IsTwin.{IsTwinOf}
+use Rattle.cl_analyse.specs.{declared.findings.Findings.Findings, Findings.AreFindings}
+use Rattle.cl_incr.specs.{SessionState.SessionState, Inner.IsTwin.IsTwinOf}
 use Rattle.cl_incr.proofs.session.Session.judge_anew.Goals as goal
 
 pub judge_requirements-requires : goal.judge_requirements-requires

@@ -3,8 +3,7 @@ use Rattle.std.specs.Prelude.{Result, Ok, Err, OnErr}
 use Rattle.cl_model.specs.declared.model.SystemModel.{SystemModel}
 use Rattle.cl_edit.specs.Changing.{with_change}
 use Rattle.cl_analyse.specs.Findings.{AreFindings}
-use Rattle.cl_incr.specs.SessionState.{SessionState}
-use Rattle.cl_incr.specs.Inner.Reach.{Reaches, IsReachOf}
+use Rattle.cl_incr.specs.{SessionState.SessionState, Inner.Reach.{Reaches, IsReachOf}}
 use Rattle.cl_incr.proofs.AskedSteps.{asks_nothing}
 use Rattle.cl_incr.proofs.session.Session.make.Goals as goal
 

@@ -1,12 +1,9 @@
 use Rattle.std.proofs.Common.{sym, ap, subst, arith}
 use Rattle.cl_model.specs.declared.model.SystemModel.{SystemModel}
 use Rattle.cl_runs.specs.SystemOf.{system_of}
-use Rattle.cl_bound.specs.declared.answer.TaskAnswer.TheVariants.{Late}
-use Rattle.cl_bound.specs.Answers.{answers_of}
+use Rattle.cl_bound.specs.{declared.answer.TaskAnswer.TheVariants.Late, Answers.answers_of}
 use Rattle.cl_analyse.specs.Findings.{AreFindings}
-use Rattle.cl_incr.specs.SessionState.{SessionState}
-use Rattle.cl_incr.specs.Touched.{AreAnswersBut}
-use Rattle.cl_incr.specs.Inner.Shift.{shifted}
+use Rattle.cl_incr.specs.{SessionState.SessionState, Touched.AreAnswersBut, Inner.Shift.shifted}
 use Rattle.cl_incr.proofs.AskedSteps.{asks_nothing}
 use Rattle.cl_incr.proofs.session.Session.mend.Goals as goal
 

@@ -2,22 +2,11 @@ use Rattle.std.proofs.Common.{◌≡◌, ℕ, ◌<◌, ◌⊎◌, inl, inr, List
 use Rattle.std.specs.Prelude.{All, Contains, IfSome}
 use Rattle.cl_model.specs.declared.model.SystemModel.{SystemModel}
 use Rattle.cl_runs.specs.SystemOf.{system_of}
-use Rattle.cl_bound.specs.declared.answer.TaskAnswer.{TaskAnswer}
-use Rattle.cl_bound.specs.declared.answer.TaskAnswer.TheVariants.{Late}
-use Rattle.cl_bound.specs.Answers.{answer_at, answers_of}
+use Rattle.cl_bound.specs.{declared.answer.TaskAnswer.{TaskAnswer, TheVariants.Late}, Answers.{answer_at, answers_of}}
 use Rattle.cl_edit.specs.Changing.{with_change, MayBeMade}
 use Rattle.cl_analyse.specs.Findings.{AreFindings}
-use Rattle.cl_incr.specs.declared.news.News.{News}
-use Rattle.cl_incr.specs.SessionState.{SessionState}
-use Rattle.cl_incr.specs.Touched.{KeepsChains, AreAnswersBut}
-use Rattle.cl_incr.specs.Inner.IsTwin.{IsTwinOf}
-use Rattle.cl_incr.specs.Inner.Passes.{ArePassesOf}
-use Rattle.cl_incr.specs.Inner.News.{AreNewsOf}
-use Rattle.cl_incr.specs.Inner.Reach.{Renumbers}
-use Rattle.cl_incr.specs.Inner.Shift.{shifted}
-use Rattle.cl_incr.specs.declared.shift.Shift.{Shift}
-use Rattle.cl_incr.proofs.KeptAnswers.{answer_count}
-use Rattle.cl_incr.proofs.ShiftedAnswers.{shifted_answer_count}
+use Rattle.cl_incr.specs.{declared.{news.News.News, shift.Shift.Shift}, SessionState.SessionState, Touched.{KeepsChains, AreAnswersBut}, Inner.{IsTwin.IsTwinOf, Passes.ArePassesOf, News.AreNewsOf, Reach.Renumbers, Shift.shifted}}
+use Rattle.cl_incr.proofs.{KeptAnswers.answer_count, ShiftedAnswers.shifted_answer_count}
 use Rattle.cl_incr.proofs.session.Session.take_news.Goals as goal
 
 -- the answers for the tasks of the old model, under their new numbers, differ from those for the new one only where a task

@@ -1,10 +1,8 @@
 use Rattle.std.proofs.Common.{◌≡◌, ◌+◌, ◌-◌, ◌≤◌, cond, nat_le, inl, inr, arith}
 use Rattle.std.proofs.lemmas.Bool.{cases_lt}
-use Rattle.cl_lead.specs.Ahead.{ticks_taken}
-use Rattle.cl_lead.specs.Inner.Sure.{ahead_in}
-use Rattle.cl_lead.proofs.SureRaises.{none_sooner, checked_down, raised_to_most, own_then, own_else}
+use Rattle.cl_lead.specs.{Ahead.ticks_taken, Inner.Sure.ahead_in}
+use Rattle.cl_lead.proofs.{SureRaises.{none_sooner, checked_down, raised_to_most, own_then, own_else}, sure.SureWork.raise.Goals.{then-from-arrival, else-from-arrival}}
 use Rattle.cl_lead.proofs.sure.SureWork.raise.Goals as goal
-use Rattle.cl_lead.proofs.sure.SureWork.raise.Goals.{then-from-arrival, else-from-arrival}
 
 pub overflow_add-needed : goal.overflow_add-needed
 overflow_add-needed c =

@@ -1,8 +1,7 @@
 use Rattle.std.proofs.Common.{ℕ, ◌+◌, ◌/◌, refl, sym, ap, ◌∙◌, subst, arith}
 use Rattle.cl_model.specs.declared.model.SystemModel.{SystemModel}
 use Rattle.cl_margin.specs.Inner.Searches.{holds, FitsItem}
-use Rattle.cl_margin.proofs.AskedItems.{trial_itself, trial_kept, item_of, item_grown, are_allowed, kept_where, fails_where}
-use Rattle.cl_margin.proofs.Halving.{halved_first, between_in_range, halved_kept, halved_fails, halved_last}
+use Rattle.cl_margin.proofs.{AskedItems.{trial_itself, trial_kept, item_of, item_grown, are_allowed, kept_where, fails_where}, Halving.{halved_first, between_in_range, halved_kept, halved_fails, halved_last}}
 use Rattle.cl_margin.proofs.searching.Search.ask.Goals as goal
 
 pub holds-requires-clause-trial : goal.holds-requires-clause-trial

@@ -1,11 +1,8 @@
 use Rattle.std.proofs.Common.{sym, ap, ◌∙◌, arith}
 use Rattle.std.proofs.lemmas.Bool.{true≢false}
 use Rattle.std.proofs.lemmas.List.{get_or_default}
-use Rattle.cl_margin.specs.declared.allowed.Allowed.{Allowed}
-use Rattle.cl_margin.specs.Inner.Allowing.{any_allowed, most_bounds, allows}
-use Rattle.cl_margin.specs.Inner.Touched.{touches_chain}
-use Rattle.cl_margin.proofs.AskedItems.{are_allowed, keeps_any}
-use Rattle.cl_margin.proofs.StaysMet.{requirement_untouched}
+use Rattle.cl_margin.specs.{declared.allowed.Allowed.Allowed, Inner.{Allowing.{any_allowed, most_bounds, allows}, Touched.touches_chain}}
+use Rattle.cl_margin.proofs.{AskedItems.{are_allowed, keeps_any}, StaysMet.requirement_untouched}
 use Rattle.cl_margin.proofs.searching.Search.ask_chain.Goals as goal
 
 -- all is allowed of the chain

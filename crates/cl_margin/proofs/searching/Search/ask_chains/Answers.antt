@@ -1,7 +1,5 @@
 use Rattle.std.proofs.Common.{arith, below_more}
-use Rattle.cl_margin.proofs.SearchEnds.{all_chains}
-use Rattle.cl_margin.proofs.AskedItems.{chain_below}
-use Rattle.cl_margin.proofs.StaysMet.{task_met_below}
+use Rattle.cl_margin.proofs.{SearchEnds.all_chains, AskedItems.chain_below, StaysMet.task_met_below}
 use Rattle.cl_margin.proofs.searching.Search.ask_chains.Goals as goal
 
 pub loop-chain-init : goal.loop-chain-init

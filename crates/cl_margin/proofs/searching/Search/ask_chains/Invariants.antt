@@ -1,10 +1,6 @@
 use Rattle.std.proofs.Common.{ℕ, ◌<◌}
 use Rattle.cl_model.specs.declared.model.SystemModel.{SystemModel}
-use Rattle.cl_margin.specs.declared.searching.Search.{Search}
-use Rattle.cl_margin.specs.declared.whose.Whose.{Whose}
-use Rattle.cl_margin.specs.Grown.{grown}
-use Rattle.cl_margin.specs.Margins.{KeepsTasks}
-use Rattle.cl_margin.specs.Inner.Searches.{KeepsChain, IsMarginSearch}
+use Rattle.cl_margin.specs.{declared.{searching.Search.Search, whose.Whose.Whose}, Grown.grown, Margins.KeepsTasks, Inner.Searches.{KeepsChain, IsMarginSearch}}
 use Rattle.cl_margin.proofs.searching.Search.ask_chains.Given as goal
 
 -- the chains below a number have been asked

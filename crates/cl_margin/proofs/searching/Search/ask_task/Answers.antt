@@ -2,8 +2,7 @@ use Rattle.std.proofs.Common.{length, sym, ap, ◌∙◌, arith}
 use Rattle.std.proofs.lemmas.Bool.{true≢false}
 use Rattle.cl_tight.specs.declared.findings.TightFindings.{TightFindings}
 use Rattle.cl_margin.specs.Margins.{is_met_task}
-use Rattle.cl_margin.proofs.MetByBounds.{tasks_found}
-use Rattle.cl_margin.proofs.StaysMet.{task_untouched}
+use Rattle.cl_margin.proofs.{MetByBounds.tasks_found, StaysMet.task_untouched}
 use Rattle.cl_margin.proofs.searching.Search.ask_task.Goals as goal
 
 pub has_task-requires : goal.has_task-requires

@@ -1,9 +1,7 @@
 use Rattle.std.proofs.Common.{ℕ, ◌-◌, inl, inr, length, get_or, sym, subst, arith}
 use Rattle.std.proofs.lemmas.Bool.{cases_eq}
-use Rattle.cl_margin.specs.Grown.{grown}
-use Rattle.cl_margin.specs.Inner.Searches.{KeepsTask}
-use Rattle.cl_margin.proofs.SearchEnds.{order_known, all_tasks}
-use Rattle.cl_margin.proofs.StaysMet.{task_met_below}
+use Rattle.cl_margin.specs.{Grown.grown, Inner.Searches.KeepsTask}
+use Rattle.cl_margin.proofs.{SearchEnds.{order_known, all_tasks}, StaysMet.task_met_below}
 use Rattle.cl_margin.proofs.searching.Search.ask_tasks.Goals as goal
 
 pub loop-asked-init : goal.loop-asked-init

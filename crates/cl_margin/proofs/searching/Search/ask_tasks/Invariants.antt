@@ -1,9 +1,6 @@
 use Rattle.std.proofs.Common.{ℕ, ◌+◌, ◌<◌, ◌≤◌, List, length, get_or}
 use Rattle.cl_model.specs.declared.model.SystemModel.{SystemModel}
-use Rattle.cl_margin.specs.declared.searching.Search.{Search}
-use Rattle.cl_margin.specs.declared.whose.Whose.{Whose}
-use Rattle.cl_margin.specs.Grown.{grown}
-use Rattle.cl_margin.specs.Inner.Searches.{KeepsTask, IsMarginSearch}
+use Rattle.cl_margin.specs.{declared.{searching.Search.Search, whose.Whose.Whose}, Grown.grown, Inner.Searches.{KeepsTask, IsMarginSearch}}
 use Rattle.cl_margin.proofs.searching.Search.ask_tasks.Given as goal
 
 -- so many tasks have been asked, from the end of the order on

@@ -1,8 +1,7 @@
 use Rattle.std.proofs.Common.{refl, sym, subst}
 use Rattle.std.specs.Prelude.{IfSome, IfNone}
 use Rattle.cl_model.specs.declared.model.SystemModel.{SystemModel}
-use Rattle.cl_margin.specs.Margins.{KeepsMet, BreaksFirst}
-use Rattle.cl_margin.specs.Inner.Touched.{IsMostInRange}
+use Rattle.cl_margin.specs.{Margins.{KeepsMet, BreaksFirst}, Inner.Touched.IsMostInRange}
 use Rattle.cl_margin.proofs.SearchEnds.{best_where, margin_limit, more_in_range, margin_broken}
 use Rattle.cl_margin.proofs.searching.Search.end.Goals as goal
 

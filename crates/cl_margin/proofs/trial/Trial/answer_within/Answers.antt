@@ -1,6 +1,5 @@
 use Rattle.std.proofs.Common.{sym, subst}
-use Rattle.cl_margin.specs.declared.trial.Trial.{Trial}
-use Rattle.cl_margin.specs.Inner.Trials.{IsTrialOf}
+use Rattle.cl_margin.specs.{declared.trial.Trial.Trial, Inner.Trials.IsTrialOf}
 use Rattle.cl_margin.proofs.TrialSteps.{one_answered}
 use Rattle.cl_margin.proofs.trial.Trial.answer_within.Goals as goal
 

@@ -1,16 +1,7 @@
 use Rattle.std.proofs.Common.{◌≡◌, ℕ, nat_lt, length, sym, ap, ◌∙◌, subst, arith}
-use Rattle.cl_model.specs.declared.model.SystemModel.{SystemModel}
-use Rattle.cl_model.specs.Ranges.{IsInRange}
-use Rattle.cl_model.specs.Validity.{IsValid}
-use Rattle.cl_margin.specs.declared.whose.Whose.{Whose}
-use Rattle.cl_margin.specs.declared.whose.Whose.TheVariants.{EveryTask, OneTask}
-use Rattle.cl_margin.specs.Grown.{percent_of, grown}
-use Rattle.cl_margin.specs.Inner.Touched.{IsOfModel}
-use Rattle.cl_margin.specs.Inner.Trials.{IsTrialAt, is_touched_task}
-use Rattle.cl_margin.proofs.GrownValid.{count_grown, grown_valid}
-use Rattle.cl_margin.proofs.Forgotten.{forgets_alike, trial_kept}
-use Rattle.cl_margin.proofs.TimedSteps.{one_put}
-use Rattle.cl_margin.proofs.TouchedTasks.{and_true}
+use Rattle.cl_model.specs.{declared.model.SystemModel.SystemModel, Ranges.IsInRange, Validity.IsValid}
+use Rattle.cl_margin.specs.{declared.whose.Whose.{Whose, TheVariants.{EveryTask, OneTask}}, Grown.{percent_of, grown}, Inner.{Touched.IsOfModel, Trials.{IsTrialAt, is_touched_task}}}
+use Rattle.cl_margin.proofs.{GrownValid.{count_grown, grown_valid}, Forgotten.{forgets_alike, trial_kept}, TimedSteps.one_put, TouchedTasks.and_true}
 use Rattle.cl_margin.proofs.trial.Trial.at.Goals as goal
 
 pub with_tasks-trial-requires-clause-in_range : goal.with_tasks-trial-requires-clause-in_range

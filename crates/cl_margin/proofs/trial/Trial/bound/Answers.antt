@@ -1,15 +1,11 @@
 use Rattle.std.proofs.Common.{◌<◌, ◌≤◌, List, length, get_or, map, sym, ap, ◌∙◌, subst, arith}
 use Rattle.std.specs.Prelude.{All}
 use Rattle.std.proofs.lemmas.List.{length-map}
-use Rattle.cl_model.specs.declared.group.Group.{Group}
-use Rattle.cl_model.specs.declared.model.SystemModel.{SystemModel}
-use Rattle.cl_model.specs.Groups.{no_group, groups_at}
+use Rattle.cl_model.specs.{declared.{group.Group.Group, model.SystemModel.SystemModel}, Groups.{no_group, groups_at}}
 use Rattle.cl_runs.specs.SystemOf.{system_of}
-use Rattle.cl_bound.specs.Answers.{answer_at, is_late}
-use Rattle.cl_bound.specs.Hops.{IsNear}
+use Rattle.cl_bound.specs.{Answers.{answer_at, is_late}, Hops.IsNear}
 use Rattle.cl_phase.specs.TightBounds.{tight_bounds}
-use Rattle.cl_tight.specs.TightAnswers.{tight_answers_of}
-use Rattle.cl_tight.specs.TightTimings.{tight_timing}
+use Rattle.cl_tight.specs.{TightAnswers.tight_answers_of, TightTimings.tight_timing}
 use Rattle.cl_tight.proofs.TightTimings.{count_of_first}
 use Rattle.cl_margin.specs.Inner.Trials.{IsTrialOf, IsTimingAt}
 use Rattle.cl_margin.proofs.ChainSteps.{none_timed, one_timed, late_is, bounds_are, all_timed}

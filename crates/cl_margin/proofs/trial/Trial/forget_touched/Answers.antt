@@ -2,13 +2,9 @@ use Rattle.std.proofs.Common.{◌≡◌, ℕ, ◌+◌, ◌<◌, [], length, get_
 use Rattle.std.specs.Prelude.{All}
 use Rattle.std.proofs.lemmas.List.{take_all, get_or_default}
 use Rattle.cl_model.specs.ByNumber.{core_of, tasks_of_core}
-use Rattle.cl_margin.specs.declared.whose.Whose.TheVariants.{OneTask}
-use Rattle.cl_margin.specs.declared.trial.Trial.{Trial}
-use Rattle.cl_margin.specs.Inner.Trials.{Forgets, is_touched_task}
-use Rattle.cl_margin.proofs.Forgotten.{forgets_none, forgets_alike}
-use Rattle.cl_margin.proofs.TouchedTasks.{is_forgotten, touched_more, untouched_more, all_touched}
+use Rattle.cl_margin.specs.{declared.{whose.Whose.TheVariants.OneTask, trial.Trial.Trial}, Inner.Trials.{Forgets, is_touched_task}}
+use Rattle.cl_margin.proofs.{Forgotten.{forgets_none, forgets_alike}, TouchedTasks.{is_forgotten, touched_more, untouched_more, all_touched}, trial.Trial.forget_touched.Goals.{then-touches, else-touches}}
 use Rattle.cl_margin.proofs.trial.Trial.forget_touched.Goals as goal
-use Rattle.cl_margin.proofs.trial.Trial.forget_touched.Goals.{then-touches, else-touches}
 
 pub loop-task-init : goal.loop-task-init
 loop-task-init c = forgets_none (is_forgotten c.args.standing.now.model.now c.args.grown []) (λ task. refl) c.args.self.now

@@ -1,11 +1,8 @@
 use Rattle.std.proofs.Common.{ℕ, ◌<◌, List, length, get_or, sym, ap, ◌∙◌, subst, arith}
-use Rattle.cl_model.specs.declared.model.SystemModel.{SystemModel}
-use Rattle.cl_model.specs.Ranges.{IsInRange}
+use Rattle.cl_model.specs.{declared.model.SystemModel.SystemModel, Ranges.IsInRange}
 use Rattle.cl_bound.specs.declared.answer.TaskAnswer.{TaskAnswer}
-use Rattle.cl_margin.specs.declared.trial.Trial.{Trial}
-use Rattle.cl_margin.specs.Inner.Trials.{IsTrialOf}
-use Rattle.cl_margin.proofs.GrownValid.{grown_same}
-use Rattle.cl_margin.proofs.TrialSteps.{one_answered, answer_found, count_found}
+use Rattle.cl_margin.specs.{declared.trial.Trial.Trial, Inner.Trials.IsTrialOf}
+use Rattle.cl_margin.proofs.{GrownValid.grown_same, TrialSteps.{one_answered, answer_found, count_found}}
 use Rattle.cl_margin.proofs.trial.Trial.reset.Goals as goal
 
 pub at-trial-requires-clause-in_range : goal.at-trial-requires-clause-in_range

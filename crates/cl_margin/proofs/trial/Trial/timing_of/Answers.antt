@@ -1,10 +1,8 @@
 use Rattle.std.proofs.Common.{sym, ap, ◌∙◌, subst}
-use Rattle.cl_model.specs.declared.model.SystemModel.{SystemModel}
-use Rattle.cl_model.specs.Groups.{IsGroupOf}
+use Rattle.cl_model.specs.{declared.model.SystemModel.SystemModel, Groups.IsGroupOf}
 use Rattle.cl_runs.specs.SystemOf.{system_of}
 use Rattle.cl_bound.specs.Answers.{is_late}
-use Rattle.cl_tight.specs.Found.{AreWindowsOf}
-use Rattle.cl_tight.specs.TightTimings.{tight_timing}
+use Rattle.cl_tight.specs.{Found.AreWindowsOf, TightTimings.tight_timing}
 use Rattle.cl_margin.proofs.TrialSteps.{response_found, settled_found, with_windows}
 use Rattle.cl_margin.proofs.trial.Trial.timing_of.Goals as goal
 

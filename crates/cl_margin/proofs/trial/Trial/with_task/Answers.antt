@@ -1,12 +1,7 @@
 use Rattle.std.proofs.Common.{◌≡◌, ℕ, ◌<◌, List, length, get_or, sym, ap, ◌∙◌, subst, arith}
 use Rattle.std.proofs.lemmas.List.{get_or_default}
-use Rattle.cl_model.specs.declared.model.SystemModel.{SystemModel}
-use Rattle.cl_model.specs.declared.task.RunnableDef.{RunnableDef}
-use Rattle.cl_model.specs.declared.task.TaskDef.{TaskDef}
-use Rattle.cl_model.specs.ByNumber.{no_task, no_runnable, task_at}
-use Rattle.cl_model.specs.Ranges.{IsRunnableInRange, IsInRange}
-use Rattle.cl_margin.proofs.TimedModels.{runnable_in, percent_times, grown_timed}
-use Rattle.cl_margin.proofs.TimedSteps.{reached_none, reached_all, range_more, is_step, range_valid}
+use Rattle.cl_model.specs.{declared.{model.SystemModel.SystemModel, task.{RunnableDef.RunnableDef, TaskDef.TaskDef}}, ByNumber.{no_task, no_runnable, task_at}, Ranges.{IsRunnableInRange, IsInRange}}
+use Rattle.cl_margin.proofs.{TimedModels.{runnable_in, percent_times, grown_timed}, TimedSteps.{reached_none, reached_all, range_more, is_step, range_valid}}
 use Rattle.cl_margin.proofs.trial.Trial.with_task.Goals as goal
 
 pub loop-place-init : goal.loop-place-init

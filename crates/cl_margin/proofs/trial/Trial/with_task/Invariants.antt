@@ -1,7 +1,6 @@
 use Rattle.std.proofs.Common.{◌≡◌, ℕ}
 use Rattle.cl_margin.specs.Grown.{grown_by}
-use Rattle.cl_margin.proofs.TimedModels.{timed_model, percent_times}
-use Rattle.cl_margin.proofs.TimedSteps.{reached}
+use Rattle.cl_margin.proofs.{TimedModels.{timed_model, percent_times}, TimedSteps.reached}
 use Rattle.cl_margin.proofs.trial.Trial.with_task.Given as goal
 
 -- the runnables so far have their times at the percentage

@@ -1,6 +1,5 @@
 use Rattle.std.proofs.Common.{ℕ, ◌+◌, refl, sym, ◌∙◌, subst, arith}
-use Rattle.cl_model.specs.declared.model.SystemModel.{SystemModel}
-use Rattle.cl_model.specs.Ranges.{IsInRange}
+use Rattle.cl_model.specs.{declared.model.SystemModel.SystemModel, Ranges.IsInRange}
 use Rattle.cl_margin.proofs.TimedSteps.{risen, risen_none, risen_more, risen_all, risen_in_range}
 use Rattle.cl_margin.proofs.trial.Trial.with_tasks.Goals as goal
 

@@ -1,6 +1,5 @@
 use Rattle.std.proofs.Common.{◌≡◌, ℕ}
-use Rattle.cl_margin.specs.declared.whose.Whose.TheVariants.{EveryTask}
-use Rattle.cl_margin.specs.Grown.{grown, grown_by}
+use Rattle.cl_margin.specs.{declared.whose.Whose.TheVariants.EveryTask, Grown.{grown, grown_by}}
 use Rattle.cl_margin.proofs.TimedSteps.{risen}
 use Rattle.cl_margin.proofs.trial.Trial.with_tasks.Given as goal
 

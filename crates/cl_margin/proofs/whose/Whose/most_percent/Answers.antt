@@ -1,8 +1,6 @@
 use Rattle.std.proofs.Common.{sym, subst, arith}
-use Rattle.cl_model.specs.declared.model.SystemModel.{SystemModel}
-use Rattle.cl_model.specs.Ranges.{IsInRange}
-use Rattle.cl_margin.proofs.GrownRange.{range_stays}
-use Rattle.cl_margin.proofs.GrownValid.{grown_same}
+use Rattle.cl_model.specs.{declared.model.SystemModel.SystemModel, Ranges.IsInRange}
+use Rattle.cl_margin.proofs.{GrownRange.range_stays, GrownValid.grown_same}
 use Rattle.cl_margin.proofs.whose.Whose.most_percent.Goals as goal
 
 pub loop-end-init : goal.loop-end-init

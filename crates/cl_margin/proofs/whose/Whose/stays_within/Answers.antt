@@ -1,11 +1,7 @@
 use Rattle.std.proofs.Common.{◌≡◌, ℕ, Bool, true, false, MatchBool, sym, ap, ◌∙◌, subst}
 use Rattle.std.proofs.lemmas.Bool.{true≢false}
-use Rattle.cl_model.specs.declared.task.TaskDef.{TaskDef}
-use Rattle.cl_model.specs.Ranges.{IsInRange}
-use Rattle.cl_margin.specs.declared.whose.Whose.{Whose}
-use Rattle.cl_margin.specs.declared.whose.Whose.TheVariants.{EveryTask, OneTask}
-use Rattle.cl_margin.specs.Grown.{grown}
-use Rattle.cl_margin.specs.Inner.Touched.{are_times_within, IsOfModel}
+use Rattle.cl_model.specs.{declared.task.TaskDef.TaskDef, Ranges.IsInRange}
+use Rattle.cl_margin.specs.{declared.whose.Whose.{Whose, TheVariants.{EveryTask, OneTask}}, Grown.grown, Inner.Touched.{are_times_within, IsOfModel}}
 use Rattle.cl_margin.proofs.GrownRange.{every_in_range, every_passes, one_in_range, one_passes}
 use Rattle.cl_margin.proofs.whose.Whose.stays_within.Goals as goal
 

@@ -1,5 +1,4 @@
-use Rattle.cl_model.proofs.AddedTasks.{groups_kept}
-use Rattle.cl_model.proofs.DroppedTasks.{groups_moved, groups_of_others_at}
+use Rattle.cl_model.proofs.{AddedTasks.groups_kept, DroppedTasks.{groups_moved, groups_of_others_at}}
 use Rattle.cl_model.proofs.laws.groups.chains_keep_their_groups.Goals as goal
 
 pub returns-clause-added : goal.returns-clause-added

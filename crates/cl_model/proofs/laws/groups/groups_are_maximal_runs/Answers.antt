@@ -1,5 +1,4 @@
-use Rattle.cl_model.specs.ByNumber.{chain_at}
-use Rattle.cl_model.specs.Groups.{groups_of, steps_of}
+use Rattle.cl_model.specs.{ByNumber.chain_at, Groups.{groups_of, steps_of}}
 use Rattle.cl_model.proofs.MaximalRuns.{groups_are_runs, runs_are_groups}
 use Rattle.cl_model.proofs.laws.groups.groups_are_maximal_runs.Goals as goal
 

@@ -1,5 +1,4 @@
-use Rattle.cl_model.proofs.RunnableChecks.{labels_known}
-use Rattle.cl_model.proofs.StepsApart.{one_writer}
+use Rattle.cl_model.proofs.{RunnableChecks.labels_known, StepsApart.one_writer}
 use Rattle.cl_model.proofs.laws.links.labels_are_known.Goals as goal
 
 pub returns-clause-known : goal.returns-clause-known

@@ -1,5 +1,4 @@
-use Rattle.cl_model.proofs.NamesApart.{cores_apart, stimuli_apart, labels_apart, tasks_apart, chains_apart, requirements_apart}
-use Rattle.cl_model.proofs.RunnableNames.{runnables_apart}
+use Rattle.cl_model.proofs.{NamesApart.{cores_apart, stimuli_apart, labels_apart, tasks_apart, chains_apart, requirements_apart}, RunnableNames.runnables_apart}
 use Rattle.cl_model.proofs.laws.names.names_are_apart.Goals as goal
 
 pub returns-clause-cores : goal.returns-clause-cores

@@ -1,6 +1,4 @@
-use Rattle.cl_model.proofs.NamePlaces.{stands_known}
-use Rattle.cl_model.proofs.StepsApart.{own_step}
-use Rattle.cl_model.proofs.StepFacts.{step_stands_in, step_has_name}
+use Rattle.cl_model.proofs.{NamePlaces.stands_known, StepsApart.own_step, StepFacts.{step_stands_in, step_has_name}}
 use Rattle.cl_model.proofs.laws.names.runnables_are_found.Goals as goal
 
 pub returns-clause-own : goal.returns-clause-own

@@ -1,9 +1,6 @@
 use Rattle.std.proofs.Common.{◌+◌, length, get_or, drop, refl, sym, ap, ◌∙◌, arith}
 use Rattle.std.proofs.lemmas.List.{length-set, drop_more, drop_all}
-use Rattle.cl_model.specs.declared.changes.TaskPriority.{TaskPriority}
-use Rattle.cl_model.specs.declared.model.SystemModel.{SystemModel}
-use Rattle.cl_model.specs.ByNumber.{task_at}
-use Rattle.cl_model.specs.Changes.{with_priorities}
+use Rattle.cl_model.specs.{declared.{changes.TaskPriority.TaskPriority, model.SystemModel.SystemModel}, ByNumber.task_at, Changes.with_priorities}
 use Rattle.cl_model.proofs.model.SystemModel.set_priorities.Goals as goal
 
 pub loop-it-init : goal.loop-it-init

@@ -1,6 +1,5 @@
 use Rattle.cl_model.specs.ByNumber.{no_task, core_number}
-use Rattle.cl_model.proofs.ListFacts.{mapped_at}
-use Rattle.cl_model.proofs.NamesKnown.{core_within}
+use Rattle.cl_model.proofs.{ListFacts.mapped_at, NamesKnown.core_within}
 use Rattle.cl_model.proofs.valid_model.ValidModel.core_of.Goals as goal
 
 pub returns-clause-core : goal.returns-clause-core

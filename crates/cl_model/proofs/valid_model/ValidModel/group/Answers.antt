@@ -1,7 +1,5 @@
-use Rattle.cl_model.specs.ByNumber.{no_chain}
-use Rattle.cl_model.specs.Groups.{no_group, groups_of}
-use Rattle.cl_model.proofs.ListFacts.{mapped_at}
-use Rattle.cl_model.proofs.GroupFacts.{groups_at_are}
+use Rattle.cl_model.specs.{ByNumber.no_chain, Groups.{no_group, groups_of}}
+use Rattle.cl_model.proofs.{ListFacts.mapped_at, GroupFacts.groups_at_are}
 use Rattle.cl_model.proofs.valid_model.ValidModel.group.Goals as goal
 
 pub returns-clause-of_task : goal.returns-clause-of_task

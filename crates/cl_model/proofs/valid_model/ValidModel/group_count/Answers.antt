@@ -1,8 +1,6 @@
 use Rattle.std.proofs.Common.{◌≡◌, length, ap, ◌∙◌, arith}
-use Rattle.cl_model.specs.ByNumber.{no_chain}
-use Rattle.cl_model.specs.Groups.{groups_at, groups_of}
-use Rattle.cl_model.proofs.ListFacts.{mapped_at}
-use Rattle.cl_model.proofs.GroupFacts.{groups_at_few, groups_at_some}
+use Rattle.cl_model.specs.{ByNumber.no_chain, Groups.{groups_at, groups_of}}
+use Rattle.cl_model.proofs.{ListFacts.mapped_at, GroupFacts.{groups_at_few, groups_at_some}}
 use Rattle.cl_model.proofs.valid_model.ValidModel.group_count.Goals as goal
 
 pub overflow_cast-result : goal.overflow_cast-result

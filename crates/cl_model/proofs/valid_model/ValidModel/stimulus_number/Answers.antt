@@ -1,7 +1,5 @@
-use Rattle.cl_model.specs.declared.task.TaskDef.{TaskDef}
-use Rattle.cl_model.specs.ByNumber.{no_task, stimulus_number}
-use Rattle.cl_model.proofs.ListFacts.{mapped_at}
-use Rattle.cl_model.proofs.NamesKnown.{stimulus_numbered}
+use Rattle.cl_model.specs.{declared.task.TaskDef.TaskDef, ByNumber.{no_task, stimulus_number}}
+use Rattle.cl_model.proofs.{ListFacts.mapped_at, NamesKnown.stimulus_numbered}
 use Rattle.cl_model.proofs.valid_model.ValidModel.stimulus_number.Goals as goal
 
 -- what is kept is the number of the stimulus that the task names

@@ -1,5 +1,4 @@
-use Rattle.cl_model.proofs.ChangedChains.{new_steps_known, chain_added}
-use Rattle.cl_model.proofs.StepFacts.{table_paired}
+use Rattle.cl_model.proofs.{ChangedChains.{new_steps_known, chain_added}, StepFacts.table_paired}
 use Rattle.cl_model.proofs.valid_model.ValidModel.with_chain.Goals as goal
 
 pub add_chain-requires-clause-known : goal.add_chain-requires-clause-known

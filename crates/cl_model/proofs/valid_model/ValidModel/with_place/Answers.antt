@@ -1,5 +1,4 @@
-use Rattle.cl_model.proofs.NamePlaces.{found_somewhere}
-use Rattle.cl_model.proofs.MovedTasks.{core_is_there, core_stands, task_stands, place_stands}
+use Rattle.cl_model.proofs.{NamePlaces.found_somewhere, MovedTasks.{core_is_there, core_stands, task_stands, place_stands}}
 use Rattle.cl_model.proofs.valid_model.ValidModel.with_place.Goals as goal
 
 pub unreachable-requires : goal.unreachable-requires

@@ -1,6 +1,5 @@
 use Rattle.std.proofs.Common.{refl, arith}
-use Rattle.cl_model.proofs.KeptLookUps.{range_stands, changed_task}
-use Rattle.cl_model.proofs.ValidTasks.{time_few}
+use Rattle.cl_model.proofs.{KeptLookUps.{range_stands, changed_task}, ValidTasks.time_few}
 use Rattle.cl_model.proofs.valid_model.ValidModel.with_range.Goals as goal
 
 pub greatest_time-requires : goal.greatest_time-requires

@@ -1,5 +1,4 @@
-use Rattle.cl_model.proofs.NamePlaces.{found_somewhere}
-use Rattle.cl_model.proofs.AddedTasks.{core_found, stimulus_found, in_range, names_new, core_kept, task_added}
+use Rattle.cl_model.proofs.{NamePlaces.found_somewhere, AddedTasks.{core_found, stimulus_found, in_range, names_new, core_kept, task_added}}
 use Rattle.cl_model.proofs.valid_model.ValidModel.with_task.Goals as goal
 
 pub add_task-requires-clause-in_range : goal.add_task-requires-clause-in_range

@@ -2,8 +2,7 @@ use Rattle.std.proofs.Common.{◌≡◌, length, get_or, take, sym, ap, ◌∙�
 use Rattle.std.specs.Prelude.{sum_by}
 use Rattle.std.proofs.lemmas.List.{get_or_default}
 use Rattle.std.proofs.lemmas.List.Concat.{length-flat_map}
-use Rattle.cl_model.specs.declared.task.TaskDef.{TaskDef}
-use Rattle.cl_model.specs.ByNumber.{no_task, task_at}
+use Rattle.cl_model.specs.{declared.task.TaskDef.TaskDef, ByNumber.{no_task, task_at}}
 use Rattle.cl_model.proofs.DroppedTasks.{runnables_few}
 use Rattle.cl_model.proofs.valid_model.tasks.runnables_of.Goals as goal
 

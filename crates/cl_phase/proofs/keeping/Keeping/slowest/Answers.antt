@@ -1,8 +1,6 @@
 use Rattle.std.proofs.Common.{ap, sym, ◌∙◌, arith}
-use Rattle.cl_phase.specs.Walks.{pace_at}
-use Rattle.cl_phase.specs.Inner.Keeping.{arrives_seldom}
-use Rattle.cl_phase.proofs.WalkRanges.{pace_here}
-use Rattle.cl_phase.proofs.SlowestGroups.{few_arrivals, slowest_at, none_slowest}
+use Rattle.cl_phase.specs.{Walks.pace_at, Inner.Keeping.arrives_seldom}
+use Rattle.cl_phase.proofs.{WalkRanges.pace_here, SlowestGroups.{few_arrivals, slowest_at, none_slowest}}
 use Rattle.cl_phase.proofs.keeping.Keeping.slowest.Goals as goal
 
 pub returns-then-is_slowest-clause-slowest : goal.returns-then-is_slowest-clause-slowest

@@ -1,6 +1,5 @@
 use Rattle.std.proofs.Common.{◌≡◌, ℕ, ◌<◌, false}
-use Rattle.cl_phase.specs.Walks.{pace_at}
-use Rattle.cl_phase.specs.Inner.Keeping.{arrives_seldom}
+use Rattle.cl_phase.specs.{Walks.pace_at, Inner.Keeping.arrives_seldom}
 use Rattle.cl_phase.proofs.keeping.Keeping.slowest.Given as goal
 
 abbrev pub invariant-loop-place : goal.invariant-loop-place

@@ -2,8 +2,7 @@ use Rattle.std.proofs.Common.{◌≡◌, ◌-◌, ◌*◌, ◌/◌, ◌^◌, ◌
 use Rattle.std.proofs.lemmas.Bool.{cases_lt}
 use Rattle.cl_time.specs.Divisors.{IsLcm}
 use Rattle.cl_stim.specs.Phase.{arrivals_in}
-use Rattle.cl_phase.specs.Inner.Ranges.{LONGEST_HYPERPERIOD}
-use Rattle.cl_phase.specs.Inner.Keeping.{AreKeptWith}
+use Rattle.cl_phase.specs.Inner.{Ranges.LONGEST_HYPERPERIOD, Keeping.AreKeptWith}
 use Rattle.cl_phase.proofs.KeptPhases.{too_long, not_soon, soon}
 use Rattle.cl_phase.proofs.keeping.Keeping.with.Goals as goal
 

@@ -1,5 +1,4 @@
-use Rattle.cl_phase.proofs.TightSafety.{tight_within_sums}
-use Rattle.cl_phase.proofs.WiderWalks.{tight_within_wider}
+use Rattle.cl_phase.proofs.{TightSafety.tight_within_sums, WiderWalks.tight_within_wider}
 use Rattle.cl_phase.proofs.laws.sums.tight_bounds_are_no_greater.Goals as goal
 
 pub returns-clause-sums : goal.returns-clause-sums

@@ -2,8 +2,7 @@ use Rattle.std.proofs.Common.{◌≡◌, ℕ, ℤ, ◌+ℤ◌, length, map, to_z
 use Rattle.std.specs.List.{range_with_len}
 use Rattle.std.proofs.lemmas.Int.{ints}
 use Rattle.cl_phase.specs.Whole.{is_kept, missed_at, counted_at}
-use Rattle.cl_phase.proofs.WalkRanges.{pace_here}
-use Rattle.cl_phase.proofs.WholeWalks.{one_more}
+use Rattle.cl_phase.proofs.{WalkRanges.pace_here, WholeWalks.one_more}
 use Rattle.cl_phase.proofs.whole.WholeWalk.from.Goals as goal
 
 -- a number as code holds it

@@ -1,7 +1,6 @@
 use Rattle.std.proofs.Common.{◌≡◌, ◌+ℤ◌, map}
 use Rattle.std.specs.List.{range_with_len}
-use Rattle.cl_phase.specs.Walks.{pace_at}
-use Rattle.cl_phase.specs.Whole.{is_kept, missed_at, counted_at}
+use Rattle.cl_phase.specs.{Walks.pace_at, Whole.{is_kept, missed_at, counted_at}}
 use Rattle.cl_phase.proofs.whole.WholeWalk.from.Given as goal
 
 abbrev pub invariant-loop-group : goal.invariant-loop-group

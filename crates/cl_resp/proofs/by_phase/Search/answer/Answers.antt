@@ -2,11 +2,9 @@ use Rattle.std.proofs.Common.{◌≡◌, ◌≤◌, inl, inr, pos, ◌-ℤ◌, �
 use Rattle.std.specs.Prelude.{Option, MatchOption, unwrap_or}
 use Rattle.std.proofs.lemmas.Int.{ints}
 use Rattle.cl_stim.specs.Phase.{last_arrival}
-use Rattle.cl_resp.specs.Asked.{is_answered}
-use Rattle.cl_resp.specs.Inner.Phased.{asked_of}
-use Rattle.cl_resp.specs.Inner.Searching.{IsReached, NoneSuffices}
-use Rattle.cl_resp.proofs.SearchedReleases.{last_before, none_after}
-use Rattle.cl_resp.proofs.SearchedArrivals.{passed, passed_arrival, passed_before, near_it, begins_there, last_or_before, longer_or_same, is_longer, ends_near, way_falls, ended, enough, reached_more, none_suffices, answered_all_down, none_begun, answered_further, answered_by_widest}
+use Rattle.cl_resp.specs.{Asked.is_answered, Inner.{Phased.asked_of, Searching.{IsReached, NoneSuffices}}}
+use Rattle.cl_resp.proofs.{SearchedReleases.{last_before, none_after}, SearchedArrivals.{passed, passed_arrival, passed_before, near_it, begins_there, last_or_before, longer_or_same, is_longer, ends_near, way_falls, ended, enough, reached_more, none_suffices, answered_all_down}}
+use Rattle.cl_resp.proofs.SearchedArrivals.{none_begun, answered_further, answered_by_widest}
 use Rattle.cl_resp.proofs.by_phase.Search.answer.Goals as goal
 
 itself : (z : ℤ) → z ≤ℤ z

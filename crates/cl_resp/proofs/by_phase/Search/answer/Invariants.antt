@@ -1,6 +1,5 @@
 use Rattle.std.proofs.Common.{pos, ◌+ℤ◌, ◌≤ℤ◌, ◌≤◌}
-use Rattle.cl_resp.specs.Inner.Phased.{asked_of}
-use Rattle.cl_resp.specs.Inner.Searching.{IsReached, AnsweredAfter}
+use Rattle.cl_resp.specs.Inner.{Phased.asked_of, Searching.{IsReached, AnsweredAfter}}
 use Rattle.cl_resp.proofs.SearchedArrivals.{way_down}
 use Rattle.cl_resp.proofs.by_phase.Search.answer.Given as goal
 

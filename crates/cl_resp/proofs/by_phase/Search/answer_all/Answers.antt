@@ -2,8 +2,7 @@ use Rattle.std.proofs.Common.{◌≡◌, pos, ◌+ℤ◌, ◌≤ℤ◌, ◌<ℤ�
 use Rattle.std.proofs.lemmas.Int.{ints}
 use Rattle.cl_stim.specs.Phase.{first_arrival}
 use Rattle.cl_resp.specs.Inner.Phased.{asked_of}
-use Rattle.cl_resp.proofs.SearchedStarts.{none_is_least}
-use Rattle.cl_resp.proofs.SearchedArrivals.{passed, none_reached, none_answered, first_passes, one_more_answered, all_answered, suffices_first}
+use Rattle.cl_resp.proofs.{SearchedStarts.none_is_least, SearchedArrivals.{passed, none_reached, none_answered, first_passes, one_more_answered, all_answered, suffices_first}}
 use Rattle.cl_resp.proofs.by_phase.Search.answer_all.Goals as goal
 
 pub loop-arrival-init : goal.loop-arrival-init

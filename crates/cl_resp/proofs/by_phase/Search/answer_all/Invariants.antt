@@ -2,8 +2,7 @@ use Rattle.std.proofs.Common.{◌≡◌, true, ◌+◌, ◌-◌, pos, ◌≤ℤ�
 use Rattle.std.specs.Prelude.{unsigned_abs}
 use Rattle.cl_model.specs.declared.limits.TheConstants.{MOST_TICKS}
 use Rattle.cl_stim.specs.Phase.{arrives_at}
-use Rattle.cl_resp.specs.Inner.Phased.{asked_of}
-use Rattle.cl_resp.specs.Inner.Searching.{IsReached, AnsweredBefore}
+use Rattle.cl_resp.specs.Inner.{Phased.asked_of, Searching.{IsReached, AnsweredBefore}}
 use Rattle.cl_resp.proofs.by_phase.Search.answer_all.Given as goal
 
 -- the arrivals before this one are answered

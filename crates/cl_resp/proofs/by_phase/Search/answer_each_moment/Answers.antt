@@ -2,14 +2,10 @@ use Rattle.std.proofs.Common.{◌≡◌, ◌≤◌, ◌⊎◌, inl, inr, pos, ne
 use Rattle.std.specs.Prelude.{unwrap_or}
 use Rattle.std.proofs.lemmas.Bool.{cases_lt, leb-true}
 use Rattle.std.proofs.lemmas.Int.{ints}
-use Rattle.cl_resp.specs.Inner.Phased.{asked_of}
-use Rattle.cl_resp.specs.Inner.Searching.{IsReached, AreWithin}
-use Rattle.cl_resp.proofs.SearchedStarts.{none_is_least}
-use Rattle.cl_resp.proofs.SearchedReleases.{last_before, none_after}
-use Rattle.cl_resp.proofs.SearchedArrivals.{passed, none_reached, none_suffices, reached_more, suffices_first, last_or_before, way_falls}
-use Rattle.cl_resp.proofs.SearchedMoments.{arrives_there, begins_itself, moments_suffice, none_within, held_within, least_within, within_further}
+use Rattle.cl_resp.specs.Inner.{Phased.asked_of, Searching.{IsReached, AreWithin}}
+use Rattle.cl_resp.proofs.{SearchedStarts.none_is_least, SearchedReleases.{last_before, none_after}, SearchedArrivals.{passed, none_reached, none_suffices, reached_more, suffices_first, last_or_before, way_falls}, SearchedMoments.{arrives_there, begins_itself, moments_suffice}}
+use Rattle.cl_resp.proofs.{SearchedMoments.{none_within, held_within, least_within, within_further}, by_phase.Search.answer_each_moment.Goals.{then-not-holds+in_ok-width, else-not-holds}}
 use Rattle.cl_resp.proofs.by_phase.Search.answer_each_moment.Goals as goal
-use Rattle.cl_resp.proofs.by_phase.Search.answer_each_moment.Goals.{then-not-holds+in_ok-width, else-not-holds}
 
 pub loop-start-init : goal.loop-start-init
 loop-start-init c =

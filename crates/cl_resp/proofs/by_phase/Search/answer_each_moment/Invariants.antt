@@ -1,6 +1,5 @@
 use Rattle.std.proofs.Common.{pos, negsuc, ◌<ℤ◌}
-use Rattle.cl_resp.specs.Inner.Phased.{asked_of}
-use Rattle.cl_resp.specs.Inner.Searching.{IsReached, AreWithin}
+use Rattle.cl_resp.specs.Inner.{Phased.asked_of, Searching.{IsReached, AreWithin}}
 use Rattle.cl_resp.proofs.SearchedArrivals.{way_down}
 use Rattle.cl_resp.proofs.by_phase.Search.answer_each_moment.Given as goal
 

@@ -1,8 +1,7 @@
 use Rattle.std.proofs.Common.{◌≡◌, ℕ, true, sym, subst}
 use Rattle.std.specs.Prelude.{Option, IfSome}
 use Rattle.std.proofs.lemmas.Bool.{eqb-true}
-use Rattle.cl_resp.specs.Asked.{suffices}
-use Rattle.cl_resp.specs.Inner.Phased.{asked_of}
+use Rattle.cl_resp.specs.{Asked.suffices, Inner.Phased.asked_of}
 use Rattle.cl_resp.proofs.by_phase.Search.is_done.Goals as goal
 
 pub returns-in-Some : goal.returns-in-Some

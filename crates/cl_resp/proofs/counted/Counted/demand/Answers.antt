@@ -1,13 +1,9 @@
 use Rattle.std.proofs.Common.{rules, ◌≡◌, ℤ, ◌+◌, ◌<◌, length, get_or, w64, to_z, of_z, ap, ◌∙◌, take_all, arith}
 use Rattle.std.specs.Prelude.{sum_by}
 use Rattle.std.proofs.lemmas.Int.{ints}
-use Rattle.cl_resp.specs.declared.counted.Counted.{Counted}
-use Rattle.cl_resp.specs.Inner.Phased.{time_in_phase}
-use Rattle.cl_resp.specs.Inner.Rising.{taken_from}
-use Rattle.cl_resp.proofs.CountedWindows.{no_task, same_item}
-use Rattle.cl_resp.proofs.WhatIsKept.{IsCountedAnew, counted_anew, counted_before, one_within, so_far}
+use Rattle.cl_resp.specs.{declared.counted.Counted.Counted, Inner.{Phased.time_in_phase, Rising.taken_from}}
+use Rattle.cl_resp.proofs.{CountedWindows.{no_task, same_item}, WhatIsKept.{IsCountedAnew, counted_anew, counted_before, one_within, so_far}, counted.Counted.demand.Goals.{then-self-place+else-ticks-from, else-self-place}}
 use Rattle.cl_resp.proofs.counted.Counted.demand.Goals as goal
-use Rattle.cl_resp.proofs.counted.Counted.demand.Goals.{then-self-place+else-ticks-from, else-self-place}
 
 pub returns-then-ticks-from-clause-demand : goal.returns-then-ticks-from-clause-demand
 returns-then-ticks-from-clause-demand c =

@@ -1,8 +1,7 @@
 use Rattle.std.proofs.Common.{◌≡◌, ◌*◌, ◌≤◌, take}
 use Rattle.std.specs.Prelude.{sum_by}
 use Rattle.cl_stim.specs.declared.arrivals.TheConstants.{MOST_WIDTH}
-use Rattle.cl_resp.specs.Inner.Phased.{time_in_phase}
-use Rattle.cl_resp.specs.Inner.Rising.{taken_from, AreTaken}
+use Rattle.cl_resp.specs.Inner.{Phased.time_in_phase, Rising.{taken_from, AreTaken}}
 use Rattle.cl_resp.proofs.counted.Counted.demand.Given as goal
 
 -- what is needed is what the tasks so far take, each of them few ticks

@@ -1,5 +1,4 @@
-use Rattle.cl_resp.proofs.LeastBehind.{part_leaves_room}
-use Rattle.cl_resp.proofs.LeastParts.{execution_in_response}
+use Rattle.cl_resp.proofs.{LeastBehind.part_leaves_room, LeastParts.execution_in_response}
 use Rattle.cl_resp.proofs.laws.by_phase.responses_by_phase_lie_between.Goals as goal
 
 pub returns-clause-execution : goal.returns-clause-execution

@@ -1,9 +1,7 @@
 use Rattle.std.proofs.Common.{◌≡◌, ◌+◌, length, take, w64, to_z, of_z, ap, ◌∙◌, take_all, arith}
 use Rattle.std.specs.Prelude.{sum_by}
 use Rattle.std.proofs.lemmas.Int.{ints}
-use Rattle.cl_resp.specs.declared.phased.InPhase.{InPhase}
-use Rattle.cl_resp.specs.Response.{demand}
-use Rattle.cl_resp.specs.Inner.Phased.{time_in_phase}
+use Rattle.cl_resp.specs.{declared.phased.InPhase.InPhase, Response.demand, Inner.Phased.time_in_phase}
 use Rattle.cl_resp.proofs.phased.PhasedQuestion.demand.Goals as goal
 
 pub returns : goal.returns

@@ -1,8 +1,7 @@
 use Rattle.std.proofs.Common.{◌≡◌, ◌+◌, ◌*◌, ◌^◌, ◌≤◌, take}
 use Rattle.std.specs.Prelude.{sum_by}
 use Rattle.cl_model.specs.declared.limits.TheConstants.{MOST_TICKS, MOST_RUNNABLES, MOST_TASKS_OF_CORE}
-use Rattle.cl_resp.specs.Response.{demand}
-use Rattle.cl_resp.specs.Inner.Phased.{time_in_phase}
+use Rattle.cl_resp.specs.{Response.demand, Inner.Phased.time_in_phase}
 use Rattle.cl_resp.proofs.phased.PhasedQuestion.demand.Given as goal
 
 -- what is needed is the demand of the tasks beside and of those in phase so far, each of which

@@ -1,11 +1,7 @@
 use Rattle.std.proofs.Common.{◌≡◌, ℤ, ◌+◌, ◌≤◌, false, w64, to_z, of_z, sym, subst, arith}
 use Rattle.std.proofs.lemmas.Int.{ints}
-use Rattle.cl_resp.specs.Asked.{holds_within}
-use Rattle.cl_resp.specs.Inner.Phased.{asked_of, NoneBefore}
-use Rattle.cl_resp.specs.Inner.Rising.{taken_in, taken_from}
-use Rattle.cl_resp.proofs.CountedSearches.{none_found}
-use Rattle.cl_resp.proofs.WhatIsKept.{kept_wider}
-use Rattle.cl_resp.proofs.PhasedWindows.{none_below_needed, none_past}
+use Rattle.cl_resp.specs.{Asked.holds_within, Inner.{Phased.{asked_of, NoneBefore}, Rising.{taken_in, taken_from}}}
+use Rattle.cl_resp.proofs.{CountedSearches.none_found, WhatIsKept.kept_wider, PhasedWindows.{none_below_needed, none_past}}
 use Rattle.cl_resp.proofs.phased.PhasedQuestion.window_from.Goals as goal
 
 pub loop-width-init : goal.loop-width-init

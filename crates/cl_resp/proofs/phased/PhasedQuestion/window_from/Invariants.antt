@@ -1,6 +1,5 @@
 use Rattle.std.proofs.Common.{◌+◌, ◌-◌, ◌≤◌}
-use Rattle.cl_resp.specs.Inner.Phased.{asked_of, NoneBefore}
-use Rattle.cl_resp.specs.Inner.Rising.{taken_in, taken_from, AreTaken}
+use Rattle.cl_resp.specs.Inner.{Phased.{asked_of, NoneBefore}, Rising.{taken_in, taken_from, AreTaken}}
 use Rattle.cl_resp.proofs.phased.PhasedQuestion.window_from.Given as goal
 
 -- no lesser width holds its own demand, and what is kept holds from this one on

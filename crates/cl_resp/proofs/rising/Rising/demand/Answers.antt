@@ -1,10 +1,7 @@
 use Rattle.std.proofs.Common.{rules, ◌≡◌, ◌<◌, List, length, get_or, ap, ◌∙◌, arith}
-use Rattle.cl_resp.specs.declared.question.Above.{Above}
-use Rattle.cl_resp.specs.declared.rising.Rising.{Rising}
-use Rattle.cl_resp.specs.Inner.Rising.{taken_in}
-use Rattle.cl_resp.proofs.WhatIsKept.{IsCountedAnew, counted_anew, counted_before, takes_between, one_exceeds, one_more, all_needed}
+use Rattle.cl_resp.specs.{declared.{question.Above.Above, rising.Rising.Rising}, Inner.Rising.taken_in}
+use Rattle.cl_resp.proofs.{WhatIsKept.{IsCountedAnew, counted_anew, counted_before, takes_between, one_exceeds, one_more, all_needed}, rising.Rising.demand.Goals.{then-self-place+else-ticks-from, else-self-place}}
 use Rattle.cl_resp.proofs.rising.Rising.demand.Goals as goal
-use Rattle.cl_resp.proofs.rising.Rising.demand.Goals.{then-self-place+else-ticks-from, else-self-place}
 
 pub returns-then-ticks-from-clause-demand : goal.returns-then-ticks-from-clause-demand
 returns-then-ticks-from-clause-demand c =

@@ -2,8 +2,7 @@ use Rattle.std.proofs.Common.{◌≡◌, ◌+◌, ◌*◌, ◌≤◌, take}
 use Rattle.std.specs.Prelude.{sum_by}
 use Rattle.cl_model.specs.declared.limits.TheConstants.{MOST_TICKS, MOST_RUNNABLES}
 use Rattle.cl_stim.specs.declared.arrivals.TheConstants.{MOST_WIDTH}
-use Rattle.cl_resp.specs.declared.question.Above.{Above}
-use Rattle.cl_resp.specs.Inner.Rising.{taken_in, AreTaken}
+use Rattle.cl_resp.specs.{declared.question.Above.Above, Inner.Rising.{taken_in, AreTaken}}
 use Rattle.cl_resp.proofs.rising.Rising.demand.Given as goal
 
 -- what is needed is the demand of the tasks so far, each of which takes few ticks

@@ -1,7 +1,6 @@
 use Rattle.std.proofs.Common.{◌≡◌, ℕ, ◌+◌, ◌<◌, ◌≤◌, List, [], Option, length, get_or, ap, ◌∙◌, arith}
 use Rattle.std.proofs.lemmas.List.{get_or_default}
-use Rattle.cl_runs.specs.declared.job.JobTable.{JobTable}
-use Rattle.cl_runs.specs.Run.{Run, core_entries}
+use Rattle.cl_runs.specs.{declared.job.JobTable.JobTable, Run.{Run, core_entries}}
 use Rattle.cl_run_data.proofs.run_data.RunData.push.Goals as goal
 
 -- what is appended stays within the table's ticks, also as the fields say it

@@ -1,5 +1,4 @@
-use Rattle.cl_runs.proofs.ChainsUnique.{forward_once, age_once, reduced_once}
-use Rattle.cl_runs.proofs.OrderedMoments.{run_unique}
+use Rattle.cl_runs.proofs.{ChainsUnique.{forward_once, age_once, reduced_once}, OrderedMoments.run_unique}
 use Rattle.cl_runs.specs.RunChains.{run_moments}
 use Rattle.cl_runs.proofs.laws.chains.complete_chains_are_unique.Goals as goal
 

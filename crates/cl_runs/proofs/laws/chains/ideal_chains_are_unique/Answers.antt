@@ -1,5 +1,4 @@
-use Rattle.cl_runs.proofs.ChainsUnique.{forward_once, age_once, reduced_once}
-use Rattle.cl_runs.proofs.OrderedMoments.{ideal_unique}
+use Rattle.cl_runs.proofs.{ChainsUnique.{forward_once, age_once, reduced_once}, OrderedMoments.ideal_unique}
 use Rattle.cl_runs.specs.RunChains.{ideal_moments}
 use Rattle.cl_runs.proofs.laws.chains.ideal_chains_are_unique.Goals as goal
 

@@ -1,8 +1,5 @@
-use Rattle.cl_runs.proofs.MeasuredOnce.{longest_once}
-use Rattle.cl_runs.proofs.ChainsUnique.{forward_once, age_once, reduced_once}
-use Rattle.cl_runs.proofs.OrderedMoments.{ideal_unique}
-use Rattle.cl_runs.specs.Chains.{first_job, last_job, IsForwardChain, IsAgeChain, IsReducedChain}
-use Rattle.cl_runs.specs.RunChains.{ideal_moments}
+use Rattle.cl_runs.proofs.{MeasuredOnce.longest_once, ChainsUnique.{forward_once, age_once, reduced_once}, OrderedMoments.ideal_unique}
+use Rattle.cl_runs.specs.{Chains.{first_job, last_job, IsForwardChain, IsAgeChain, IsReducedChain}, RunChains.ideal_moments}
 use Rattle.cl_runs.proofs.laws.chains.longest_ideal_chains_are_unique.Goals as goal
 
 pub returns-clause-forward : goal.returns-clause-forward

@@ -1,5 +1,4 @@
-use Rattle.cl_runs.proofs.MeasuredOnce.{measured_once}
-use Rattle.cl_runs.proofs.OrderedMoments.{run_unique}
+use Rattle.cl_runs.proofs.{MeasuredOnce.measured_once, OrderedMoments.run_unique}
 use Rattle.cl_runs.specs.RunChains.{run_moments}
 use Rattle.cl_runs.proofs.laws.chains.what_is_measured_is_unique.Goals as goal
 

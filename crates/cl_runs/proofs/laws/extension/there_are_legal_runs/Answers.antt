@@ -1,5 +1,4 @@
-use Rattle.cl_runs.proofs.Extension.{empty_legal, some_legal}
-use Rattle.cl_runs.proofs.Filling.{legal_of_table}
+use Rattle.cl_runs.proofs.{Extension.{empty_legal, some_legal}, Filling.legal_of_table}
 use Rattle.cl_runs.proofs.laws.extension.there_are_legal_runs.Goals as goal
 
 pub returns-clause-empty : goal.returns-clause-empty

@@ -1,5 +1,4 @@
-use Rattle.cl_runs.proofs.LegalFacts.{held_has_work}
-use Rattle.cl_runs.proofs.Holding.{held_executes, held_executed}
+use Rattle.cl_runs.proofs.{LegalFacts.held_has_work, Holding.{held_executes, held_executed}}
 use Rattle.cl_runs.proofs.laws.held.held_tasks_run.Goals as goal
 
 pub returns-clause-pending : goal.returns-clause-pending

@@ -1,5 +1,4 @@
-use Rattle.cl_runs.proofs.StartsFinishes.{starts_once, finishes_once}
-use Rattle.cl_runs.proofs.MomentFacts.{reads_once, writes_once}
+use Rattle.cl_runs.proofs.{StartsFinishes.{starts_once, finishes_once}, MomentFacts.{reads_once, writes_once}}
 use Rattle.cl_runs.proofs.laws.moments.moments_are_unique.Goals as goal
 
 pub returns-clause-starts : goal.returns-clause-starts

@@ -1,5 +1,4 @@
-use Rattle.cl_runs.proofs.StartsFinishes.{start_begun, start_earliest}
-use Rattle.cl_runs.proofs.MomentFacts.{has_started, has_started_through, earlier_started}
+use Rattle.cl_runs.proofs.{StartsFinishes.{start_begun, start_earliest}, MomentFacts.{has_started, has_started_through, earlier_started}}
 use Rattle.cl_runs.proofs.laws.progress.start_begins_work.Goals as goal
 
 pub returns-clause-begun : goal.returns-clause-begun

@@ -1,10 +1,8 @@
 use Rattle.std.proofs.Common.{◌≡◌, ◌+◌, ◌-◌, None, sym, arith}
 use Rattle.cl_runs.specs.SystemOf.{system_of}
 use Rattle.cl_runs.proofs.ModelSystem.{count_is}
-use Rattle.cl_sched.proofs.LawfulTables.{lawful_there}
-use Rattle.cl_sched.proofs.Advanced.{is_within, task_within, task_on, standing_there, held_alone, runs, idles, reached_idle, reached_further, reached_along}
+use Rattle.cl_sched.proofs.{LawfulTables.lawful_there, Advanced.{is_within, task_within, task_on, standing_there, held_alone, runs, idles, reached_idle, reached_further, reached_along}, core_progress.CoreProgress.advance.Goals.{in-Some, in_default}}
 use Rattle.cl_sched.proofs.core_progress.CoreProgress.advance.Goals as goal
-use Rattle.cl_sched.proofs.core_progress.CoreProgress.advance.Goals.{in-Some, in_default}
 
 pub execute-requires-clause-lawful : goal.execute-requires-clause-lawful
 execute-requires-clause-lawful c =

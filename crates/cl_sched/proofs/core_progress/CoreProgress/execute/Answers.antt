@@ -1,19 +1,10 @@
 use Rattle.std.proofs.Common.{◌≡◌, ◌<◌, ◌↔◌, List, length, map, refl, ap, sym, ◌∙◌, subst, arith}
 use Rattle.std.specs.Prelude.{IsTrue}
-use Rattle.cl_model.specs.declared.task.TaskDef.{TaskDef}
-use Rattle.cl_model.specs.ByNumber.{task_at}
-use Rattle.cl_runs.specs.declared.job.Job.{Job}
-use Rattle.cl_runs.specs.SystemOf.{range_of, system_of}
-use Rattle.cl_runs.specs.Table.{table_jobs}
-use Rattle.cl_runs.specs.TaskTiming.{timing_at}
+use Rattle.cl_model.specs.{declared.task.TaskDef.TaskDef, ByNumber.task_at}
+use Rattle.cl_runs.specs.{declared.job.Job.Job, SystemOf.{range_of, system_of}, Table.table_jobs, TaskTiming.timing_at}
 use Rattle.cl_runs.proofs.ModelSystem.{ranges_are}
-use Rattle.cl_sched.specs.declared.progress.Progress.{Progress}
-use Rattle.cl_sched.specs.Progress.{IsHolding}
-use Rattle.cl_sched.specs.Inner.TakingTime.{TakeTime}
-use Rattle.cl_sched.specs.CoreProgress.{progress_at}
-use Rattle.cl_sched.proofs.LawfulTables.{lawful_there}
-use Rattle.cl_sched.proofs.ModelJobs.{jobs_take_time, in_lists}
-use Rattle.cl_sched.proofs.Executing.{progress_read, has_executed, some_come}
+use Rattle.cl_sched.specs.{declared.progress.Progress.Progress, Progress.IsHolding, Inner.TakingTime.TakeTime, CoreProgress.progress_at}
+use Rattle.cl_sched.proofs.{LawfulTables.lawful_there, ModelJobs.{jobs_take_time, in_lists}, Executing.{progress_read, has_executed, some_come}}
 use Rattle.cl_sched.proofs.core_progress.CoreProgress.execute.Goals as goal
 
 pub task-requires : goal.task-requires

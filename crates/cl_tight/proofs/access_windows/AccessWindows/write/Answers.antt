@@ -1,7 +1,6 @@
 use Rattle.std.proofs.Common.{◌≡◌, ℕ, sym, ap, ◌∙◌, subst, arith}
 use Rattle.std.specs.Prelude.{IfOk}
-use Rattle.cl_model.specs.declared.task.TaskDef.{TaskDef}
-use Rattle.cl_model.specs.declared.task.AccessKind.TheVariants.{Explicit, Implicit, Timed}
+use Rattle.cl_model.specs.declared.task.{TaskDef.TaskDef, AccessKind.TheVariants.{Explicit, Implicit, Timed}}
 use Rattle.cl_runs.proofs.ModelSystem.{range_count_is}
 use Rattle.cl_tight.proofs.AccessTimes.{write_is}
 use Rattle.cl_tight.proofs.access_windows.AccessWindows.write.Goals as goal

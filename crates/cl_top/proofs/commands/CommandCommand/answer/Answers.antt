@@ -1,7 +1,6 @@
 use Rattle.std.proofs.lemmas.Result.{IfOk-weaker}
 use Rattle.cl_engine.specs.Content.{content_of}
-use Rattle.cl_top.proofs.WellMeant.{asks_for_few}
-use Rattle.cl_top.proofs.Answers.{may_end}
+use Rattle.cl_top.proofs.{WellMeant.asks_for_few, Answers.may_end}
 use Rattle.cl_top.proofs.commands.CommandCommand.answer.Goals as goal
 
 pub returns-clause-status : goal.returns-clause-status

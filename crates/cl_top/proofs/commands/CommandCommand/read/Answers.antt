@@ -1,9 +1,7 @@
 use Rattle.std.proofs.Common.{◌≡◌, sym, ℕ, List, Option, Some, None}
 use Rattle.std.specs.Option.{IfSome}
 use Rattle.cl_engine.specs.Language.{HasFileWords}
-use Rattle.cl_top.specs.declared.command.Command.{Command}
-use Rattle.cl_top.specs.Command.{command_of}
-use Rattle.cl_top.specs.Commands.{commands}
+use Rattle.cl_top.specs.{declared.command.Command.Command, Command.command_of, Commands.commands}
 use Rattle.cl_top.proofs.WellMeant.{has_file_words}
 use Rattle.cl_top.proofs.commands.CommandCommand.read.Goals as goal
 

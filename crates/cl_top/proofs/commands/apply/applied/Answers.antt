@@ -1,11 +1,8 @@
 use Rattle.std.proofs.Common.{ap, ◌∙◌, inl, inr}
 use Rattle.std.proofs.lemmas.Result.{IfOk-weaker}
 use Rattle.std.specs.Prelude.{Err}
-use Rattle.cl_top.specs.Commands.{meaning_of}
-use Rattle.cl_top.specs.Commands.Apply.{all_written, refused_alone}
-use Rattle.cl_top.specs.Commands.Edit.{bad_line}
-use Rattle.cl_top.proofs.Applied.{from_each}
-use Rattle.cl_top.proofs.EditsAlike.{listed_in_range}
+use Rattle.cl_top.specs.Commands.{meaning_of, Apply.{all_written, refused_alone}, Edit.bad_line}
+use Rattle.cl_top.proofs.{Applied.from_each, EditsAlike.listed_in_range}
 use Rattle.cl_top.proofs.commands.apply.applied.Goals as goal
 
 -- what is read of a list of edits is in range

@@ -1,19 +1,11 @@
 use Rattle.std.proofs.Common.{sym, ap, ◌∙◌, subst}
 use Rattle.std.proofs.lemmas.Result.{IfOk-weaker}
 use Rattle.std.specs.Prelude.{◌≡◌, Option, Err}
-use Rattle.cl_model.specs.declared.model_fault.ModelFault.{ModelFault}
-use Rattle.cl_model.specs.declared.refusal.Refusal.{Refusal}
-use Rattle.cl_model.specs.Answers.{MatchFault}
-use Rattle.cl_edit.specs.Edited.{edited}
-use Rattle.cl_edit.specs.declared.edit_lines.ListedEdit.{ListedEdit}
-use Rattle.cl_edit.specs.Listed.{GivesNext}
+use Rattle.cl_model.specs.{declared.{model_fault.ModelFault.ModelFault, refusal.Refusal.Refusal}, Answers.MatchFault}
+use Rattle.cl_edit.specs.{Edited.edited, declared.edit_lines.ListedEdit.ListedEdit, Listed.GivesNext}
 use Rattle.cl_engine.specs.declared.outcome.Outcome.{Outcome}
-use Rattle.cl_top.specs.Commands.{meaning_of}
-use Rattle.cl_top.specs.Commands.Apply.{all_written, refused_alone}
-use Rattle.cl_top.specs.Commands.Edit.{edits_refused}
-use Rattle.cl_top.specs.Inner.Applying.{ApplyTo}
-use Rattle.cl_top.proofs.LinesApplied.{all_left, next_in_range, next_applied, next_refused, none_left}
-use Rattle.cl_top.proofs.LinesMade.{next_fewer}
+use Rattle.cl_top.specs.{Commands.{meaning_of, Apply.{all_written, refused_alone}, Edit.edits_refused}, Inner.Applying.ApplyTo}
+use Rattle.cl_top.proofs.{LinesApplied.{all_left, next_in_range, next_applied, next_refused, none_left}, LinesMade.next_fewer}
 use Rattle.cl_top.proofs.commands.apply.apply_lines.Goals as goal
 
 pub loop-model-init : goal.loop-model-init

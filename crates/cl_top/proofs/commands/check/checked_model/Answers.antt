@@ -1,9 +1,6 @@
 use Rattle.std.proofs.Common.{◌≡◌, Option, None, sym, ap, subst}
 use Rattle.std.specs.Prelude.{IfOk}
-use Rattle.cl_model.specs.declared.model.SystemModel.{SystemModel}
-use Rattle.cl_model.specs.declared.refusal.Refusal.{Refusal}
-use Rattle.cl_model.specs.Refusals.{first}
-use Rattle.cl_model.specs.Validity.{refusal_of}
+use Rattle.cl_model.specs.{declared.{model.SystemModel.SystemModel, refusal.Refusal.Refusal}, Refusals.first, Validity.refusal_of}
 use Rattle.cl_explain.specs.Accepted.{accepted_text}
 use Rattle.cl_top.specs.Commands.Check.{ValidityChecks}
 use Rattle.cl_engine.specs.Done.{IsDone}

@@ -2,8 +2,7 @@ use Rattle.std.proofs.Common.{ap, ◌∙◌, inl, inr}
 use Rattle.std.proofs.lemmas.Result.{IfOk-weaker}
 use Rattle.std.specs.Prelude.{Err}
 use Rattle.cl_top.specs.Commands.CheckFile.{all_accepted, edit_mended, line_mended}
-use Rattle.cl_top.proofs.Applied.{from_each}
-use Rattle.cl_top.proofs.EditsAlike.{listed_in_range}
+use Rattle.cl_top.proofs.{Applied.from_each, EditsAlike.listed_in_range}
 use Rattle.cl_top.proofs.commands.check_list.listed.Goals as goal
 
 -- what is read of a list of edits is in range

@@ -1,6 +1,5 @@
 use Rattle.std.proofs.Common.{sym, ap, ◌∙◌, subst, Ok}
-use Rattle.cl_top.specs.declared.commands.check_list.Tried.{Tried}
-use Rattle.cl_top.specs.Inner.ListsMade.{IsTriedAs}
+use Rattle.cl_top.specs.{declared.commands.check_list.Tried.Tried, Inner.ListsMade.IsTriedAs}
 use Rattle.cl_top.proofs.commands.check_list.make_tried.Goals as goal
 
 pub returns-in_ok-changed-in-Accepted : goal.returns-in_ok-changed-in-Accepted

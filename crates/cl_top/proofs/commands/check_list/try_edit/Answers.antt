@@ -1,10 +1,7 @@
 use Rattle.std.proofs.Common.{◌≡◌, sym, ap, ◌∙◌, subst, Ok, Err}
 use Rattle.std.specs.Prelude.{Some}
-use Rattle.cl_model.specs.declared.model_fault.ModelFault.{ModelFault}
-use Rattle.cl_model.specs.Answers.{MatchFault}
-use Rattle.cl_model.specs.Refusals.{first}
-use Rattle.cl_edit.specs.Changing.{with_change}
-use Rattle.cl_edit.specs.Edited.{edited, with_edit}
+use Rattle.cl_model.specs.{declared.model_fault.ModelFault.ModelFault, Answers.MatchFault, Refusals.first}
+use Rattle.cl_edit.specs.{Changing.with_change, Edited.{edited, with_edit}}
 use Rattle.cl_edit.proofs.CheckedEdits.{checks_of_edit, made_where_passes, refused_where_fault}
 use Rattle.cl_top.proofs.commands.check_list.try_edit.Goals as goal
 

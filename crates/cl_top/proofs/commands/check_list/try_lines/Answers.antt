@@ -1,15 +1,10 @@
 use Rattle.std.proofs.Common.{sym, subst}
 use Rattle.std.proofs.lemmas.Result.{IfOk-weaker}
 use Rattle.std.specs.Prelude.{Option}
-use Rattle.cl_edit.specs.declared.edit_lines.ListedEdit.{ListedEdit}
-use Rattle.cl_edit.specs.Listed.{GivesNext}
+use Rattle.cl_edit.specs.{declared.edit_lines.ListedEdit.ListedEdit, Listed.GivesNext}
 use Rattle.cl_engine.specs.declared.outcome.Outcome.{Outcome}
-use Rattle.cl_top.specs.Commands.CheckFile.{all_accepted, edit_mended}
-use Rattle.cl_top.specs.declared.commands.check_list.Left.{Left}
-use Rattle.cl_top.specs.Inner.Applying.{ApplyTo}
-use Rattle.cl_top.specs.Inner.ListsMade.{IsLeftBy}
-use Rattle.cl_top.proofs.LinesApplied.{all_left, next_in_range, next_applied, next_refused, none_left}
-use Rattle.cl_top.proofs.LinesMade.{next_fewer}
+use Rattle.cl_top.specs.{Commands.CheckFile.{all_accepted, edit_mended}, declared.commands.check_list.Left.Left, Inner.{Applying.ApplyTo, ListsMade.IsLeftBy}}
+use Rattle.cl_top.proofs.{LinesApplied.{all_left, next_in_range, next_applied, next_refused, none_left}, LinesMade.next_fewer}
 use Rattle.cl_top.proofs.commands.check_list.try_lines.Goals as goal
 
 pub loop-model-init : goal.loop-model-init

@@ -2,8 +2,7 @@ use Rattle.std.proofs.Common.{ℕ, ap, ◌∙◌, inr}
 use Rattle.std.proofs.lemmas.Result.{IfOk-weaker}
 use Rattle.std.specs.Prelude.{Err}
 use Rattle.cl_traces.specs.BadTraceLines.{bad_trace_text}
-use Rattle.cl_top.specs.OfTrace.{trace_refused}
-use Rattle.cl_top.specs.Commands.CheckFile.{with_said}
+use Rattle.cl_top.specs.{OfTrace.trace_refused, Commands.CheckFile.with_said}
 use Rattle.cl_top.proofs.commands.check_trace.checked_trace.Goals as goal
 
 pub returns-in-Err-BadLine : goal.returns-in-Err-BadLine

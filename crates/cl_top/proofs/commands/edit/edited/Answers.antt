@@ -1,12 +1,9 @@
 use Rattle.std.proofs.Common.{ℕ, ap, ◌∙◌, inl, inr}
 use Rattle.std.proofs.lemmas.Result.{IfOk-weaker}
 use Rattle.std.specs.Prelude.{Err}
-use Rattle.cl_model.specs.declared.refusal.Code.TheVariants.{E1}
-use Rattle.cl_model.specs.Place.{top}
-use Rattle.cl_top.specs.Commands.{meaning_of}
-use Rattle.cl_top.specs.Commands.Edit.{edits_refused}
-use Rattle.cl_top.proofs.EditsAlike.{listed_in_range}
-use Rattle.cl_top.proofs.EditSteps.{few_of_text, few_of_none}
+use Rattle.cl_model.specs.{declared.refusal.Code.TheVariants.E1, Place.top}
+use Rattle.cl_top.specs.Commands.{meaning_of, Edit.edits_refused}
+use Rattle.cl_top.proofs.{EditsAlike.listed_in_range, EditSteps.{few_of_text, few_of_none}}
 use Rattle.cl_top.proofs.commands.edit.edited.Goals as goal
 
 -- what is read of a list of edits is in range

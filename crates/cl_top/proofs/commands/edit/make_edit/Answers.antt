@@ -1,7 +1,6 @@
 use Rattle.cl_edit.specs.Edited.{edited}
 use Rattle.cl_edit.proofs.EditedValid.{made_is}
-use Rattle.cl_top.proofs.EditSteps.{made_asked, unmade_asked}
-use Rattle.cl_top.proofs.PutByEdits.{written_before}
+use Rattle.cl_top.proofs.{EditSteps.{made_asked, unmade_asked}, PutByEdits.written_before}
 use Rattle.cl_top.proofs.commands.edit.make_edit.Goals as goal
 
 pub returns-in_err-apply-clause-steps : goal.returns-in_err-apply-clause-steps

@@ -2,8 +2,7 @@ use Rattle.std.proofs.Common.{subst}
 use Rattle.cl_model.specs.declared.model.SystemModel.{SystemModel}
 use Rattle.cl_edit.specs.Reading.{edits_of}
 use Rattle.std.specs.Prelude.{IfOk}
-use Rattle.cl_top.specs.Commands.Edit.{AreEditedTo}
-use Rattle.cl_top.specs.Steps.{AskForChanges}
+use Rattle.cl_top.specs.{Commands.Edit.AreEditedTo, Steps.AskForChanges}
 use Rattle.cl_top.proofs.EditSteps.{nothing_asked}
 use Rattle.cl_top.proofs.commands.edit.write_edited.Goals as goal
 

@@ -1,8 +1,7 @@
 use Rattle.std.proofs.Common.{sym, ap, ◌∙◌, subst}
 use Rattle.std.proofs.lemmas.Result.{IfOk-weaker}
 use Rattle.std.specs.Prelude.{ℕ, List, Option, Err}
-use Rattle.cl_edit.specs.declared.edit_lines.ListedEdit.{ListedEdit}
-use Rattle.cl_edit.specs.Listed.{GivesNext}
+use Rattle.cl_edit.specs.{declared.edit_lines.ListedEdit.ListedEdit, Listed.GivesNext}
 use Rattle.cl_engine.specs.declared.outcome.Outcome.{Outcome}
 use Rattle.cl_top.specs.Commands.Edit.{edits_refused, behind, AreEditedTo}
 use Rattle.cl_top.proofs.LinesMade.{none_made, next_in_range, next_fewer, next_made, next_refused, next_asked, none_left, no_more_asked}

@@ -1,8 +1,7 @@
 use Rattle.std.proofs.Common.{ap, ◌∙◌, inr}
 use Rattle.std.proofs.lemmas.Result.{IfOk-weaker}
 use Rattle.std.specs.Prelude.{Err}
-use Rattle.cl_top.specs.Commands.{meaning_of}
-use Rattle.cl_top.specs.OfTrace.{trace_refused}
+use Rattle.cl_top.specs.{Commands.meaning_of, OfTrace.trace_refused}
 use Rattle.cl_top.proofs.commands.observe.observed.Goals as goal
 
 pub returns-in-Err-BadLine-clause-outcome : goal.returns-in-Err-BadLine-clause-outcome

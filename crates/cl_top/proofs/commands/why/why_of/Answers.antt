@@ -1,8 +1,7 @@
 use Rattle.std.proofs.Common.{◌<◌, length, subst, arith}
 use Rattle.std.proofs.Math.ListN.{length-map}
 use Rattle.cl_model.specs.declared.chain.RequirementDef.{RequirementDef}
-use Rattle.cl_top.specs.declared.subject.What.{What}
-use Rattle.cl_top.specs.Subject.{names_asked}
+use Rattle.cl_top.specs.{declared.subject.What.What, Subject.names_asked}
 use Rattle.cl_top.proofs.commands.why.why_of.Goals as goal
 
 pub why_requirement-requires-clause-place : goal.why_requirement-requires-clause-place

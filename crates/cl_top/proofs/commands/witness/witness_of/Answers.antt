@@ -1,12 +1,10 @@
 use Rattle.std.proofs.Common.{◌<◌, ℕ, List, Option, length, get_or, ap, ◌∙◌, subst, arith}
 use Rattle.std.specs.Prelude.{unwrap_or}
 use Rattle.std.proofs.Math.ListN.{length-map}
-use Rattle.cl_model.specs.declared.chain.RequirementDef.{RequirementDef}
-use Rattle.cl_model.specs.declared.model.SystemModel.{SystemModel}
+use Rattle.cl_model.specs.declared.{chain.RequirementDef.RequirementDef, model.SystemModel.SystemModel}
 use Rattle.cl_runs.specs.Requirements.{required_chain}
 use Rattle.cl_tight.proofs.TightLists.{required_known}
-use Rattle.cl_top.specs.declared.subject.What.{What}
-use Rattle.cl_top.specs.Subject.{names_asked}
+use Rattle.cl_top.specs.{declared.subject.What.What, Subject.names_asked}
 use Rattle.cl_top.proofs.commands.witness.witness_of.Goals as goal
 
 pub witness_of_chain-requires-in-Requirement-clause-chain : goal.witness_of_chain-requires-in-Requirement-clause-chain

@@ -1,8 +1,6 @@
 use Rattle.std.proofs.Common.{◌≡◌, ℕ, ◌+◌, Bool, length, ap, ◌∙◌, arith}
 use Rattle.std.specs.Prelude.{sum_by}
-use Rattle.cl_runs.specs.TaskTiming.{timing_at}
-use Rattle.cl_runs.specs.SystemOf.{system_of}
-use Rattle.cl_runs.specs.Priorities.{is_above, tasks_above}
+use Rattle.cl_runs.specs.{TaskTiming.timing_at, SystemOf.system_of, Priorities.{is_above, tasks_above}}
 use Rattle.cl_runs.proofs.ModelSystem.{count_is}
 use Rattle.cl_resp.specs.Question.{lower_block_of}
 use Rattle.cl_resp.proofs.BusyWindowTotals.{total, total_of_range}

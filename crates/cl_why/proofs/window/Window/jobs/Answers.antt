@@ -1,20 +1,13 @@
 use Rattle.std.proofs.Common.{◌≡◌, ◌+◌, ℤ, pos, ◌-ℤ◌, to_z, of_z, w64, sym, ap, ◌∙◌, subst, arith}
 use Rattle.std.proofs.lemmas.Int.{ints}
-use Rattle.cl_model.specs.declared.stimulus.StimulusKind.{StimulusKind}
-use Rattle.cl_model.specs.Ranges.{IsKindInRange}
-use Rattle.cl_model.specs.Timing.{IsKindOrdered}
+use Rattle.cl_model.specs.{declared.stimulus.StimulusKind.StimulusKind, Ranges.IsKindInRange, Timing.IsKindOrdered}
 use Rattle.cl_model.proofs.ValidTasks.{kind_in_range, kind_ordered}
 use Rattle.cl_phase.specs.TightBounds.{ticks_or_none}
-use Rattle.cl_stim.specs.declared.any_stimulus.AnyStimulus.{AnyStimulus}
-use Rattle.cl_stim.specs.AnyStimulus.{kind_of}
-use Rattle.cl_stim.specs.Releases.{most_releases}
-use Rattle.cl_stim.specs.Stimulus.{IsStimulus}
+use Rattle.cl_stim.specs.{declared.{any_stimulus.AnyStimulus.AnyStimulus, phase.Phase.Phase}, AnyStimulus.kind_of, Releases.most_releases, Stimulus.IsStimulus}
 use Rattle.cl_stim.proofs.ValidStimuli.{has_stimulus}
 use Rattle.cl_cycle.specs.Counts.{arrivals_from}
-use Rattle.cl_stim.specs.declared.phase.Phase.{Phase}
 use Rattle.cl_why.specs.Windows.{width_of}
-use Rattle.cl_why.proofs.WindowRanges.{narrow}
-use Rattle.cl_why.proofs.WindowJobs.{free_jobs, kept_jobs, jitter_few}
+use Rattle.cl_why.proofs.{WindowRanges.narrow, WindowJobs.{free_jobs, kept_jobs, jitter_few}}
 use Rattle.cl_why.proofs.window.Window.jobs.Goals as goal
 
 pub of-requires : goal.of-requires

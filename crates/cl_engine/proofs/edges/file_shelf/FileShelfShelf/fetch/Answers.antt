@@ -1,7 +1,5 @@
 use Rattle.std.proofs.Common.{subst}
-use Rattle.cl_io.specs.declared.name_numbers.Numbers.{Numbers}
-use Rattle.cl_io.specs.NameNumbers.{numbers_of}
-use Rattle.cl_io.specs.Shelf.{Untold, MayAnswer}
+use Rattle.cl_io.specs.{declared.name_numbers.Numbers.Numbers, NameNumbers.numbers_of, Shelf.{Untold, MayAnswer}}
 use Rattle.cl_engine.proofs.edges.file_shelf.FileShelfShelf.fetch.Goals as goal
 
 -- the entering of the name changed no number
