@@ -74,10 +74,7 @@ fn best_of<L: Ledger>(
         let rear = rear_from(alloc, model, groups, rears.as_slice(), settled, steps)?;
         rears.push(rear)?;
     }
-    let Some(best) = rears.pop() else {
-        unreachable!();
-    };
-    Ok(best)
+    Ok(rears.pop().unwrap())
 }
 
 /// Finds the best cut of a chain of a valid model, from the findings of the model. Of all cuts into

@@ -28,10 +28,9 @@ impl JobNumbers {
         requires { length numbers.now ≤ MOST_STEPS }
         ensures { result ≡ numbers.now }
     {
-        let Ok(numbers) = ArrayVec::try_from(numbers) else {
-            unreachable!();
-        };
-        JobNumbers { numbers }
+        JobNumbers {
+            numbers: ArrayVec::try_from(numbers).unwrap(),
+        }
     }
 
     /// Returns the numbers, that of the first group first.

@@ -21,10 +21,7 @@ fn spelled(letter: &str, number: u64, rest: &str) -> Name
     text.push_str(letter);
     text.push_str(Buffer::new().format(number));
     text.push_str(rest);
-    let Some(name) = Name::read(text.as_str().as_bytes()) else {
-        unreachable!();
-    };
-    name
+    Name::read(text.as_str().as_bytes()).unwrap()
 }
 
 /// Makes the name of a letter and a number.

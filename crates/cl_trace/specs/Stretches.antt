@@ -1,5 +1,5 @@
 -- The longest stretches of entries, computed from them.
-use Rattle.std.specs.Prelude.{ℕ, suc, if◌then◌else◌, Option, List, [], ◌∷◌}
+use Rattle.std.specs.Prelude.{ℕ, suc, ◌==◌, if◌then◌else◌, Option, List, [], ◌∷◌}
 use Rattle.std.specs.Option.{option_eq}
 use Rattle.cl_run_data.specs.declared.stretches.Stretch.{Stretch}
 
