@@ -9,7 +9,8 @@ use Rattle.cl_model.specs.{Ranges.IsInRange, Validity.IsValid}
 use Rattle.cl_model.proofs.GroupFacts.{groups_at_are, groups_at_some}
 use Rattle.cl_runs.specs.{SystemOf.system_of, Requirements.required_chain}
 use Rattle.cl_runs.proofs.ModelSystem.{count_is, system_sound}
-use Rattle.cl_bound.specs.{declared.answer.TaskAnswer.TaskAnswer, Answers.{answer_to, answers_of, is_late, NoneIsLate}, Bounds.{Lengths, AreBoundsOf, settled_timings, bounds_of}, NoGreater.AreNoGreater}
+use Rattle.cl_hop.specs.{Bounds.{Lengths, AreBoundsOf}, NoGreater.AreNoGreater}
+use Rattle.cl_bound.specs.{declared.answer.TaskAnswer.TaskAnswer, Answers.{answer_to, answers_of, is_late, NoneIsLate}, Bounds.{settled_timings, bounds_of}}
 use Rattle.cl_bound.specs.declared.answer.TaskAnswer.TheVariants as answers
 use Rattle.cl_bound.proofs.SettledChains.{settled_sums}
 use Rattle.cl_exact.specs.{TimedPeriodic.is_timed_periodic_chain, ExactLengths.{Witnesses, AreExactLengths}, Hyperperiod.{IsWithinLimit, IsPastLimit}, Rhythms.{rhythm_of, rhythms}}

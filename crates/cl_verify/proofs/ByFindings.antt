@@ -6,8 +6,9 @@ use Rattle.std.proofs.lemmas.List.{get_or-map}
 use Rattle.cl_model.specs.declared.{model.SystemModel.SystemModel, chain.RequirementDef.RequirementDef}
 use Rattle.cl_runs.specs.{Requirements.{no_requirement, requirement_at, required_chain, IsBrokenBy}, SystemOf.system_of}
 use Rattle.cl_runs.proofs.ModelSystem.{count_is}
+use Rattle.cl_hop.specs.Bounds.{Lengths}
 use Rattle.cl_resp.specs.{ByPhase.response_by_phase, Response.Response}
-use Rattle.cl_bound.specs.{declared.answer.TaskAnswer.TaskAnswer, Bounds.Lengths, Answers.{answer_with, answer_at, is_late}}
+use Rattle.cl_bound.specs.{declared.answer.TaskAnswer.TaskAnswer, Answers.{answer_with, answer_at, is_late}}
 use Rattle.cl_bound.specs.declared.answer.TaskAnswer.TheVariants as answer
 use Rattle.cl_analyse.specs.{declared.findings.{ChainAnswer.ChainAnswer, Verdict.Verdict}, ChainAnswers.chain_answer_at, Verdicts.{limited_bound, required_bound, verdict_on, verdict_at}}
 use Rattle.cl_analyse.specs.declared.findings.ChainAnswer.TheVariants as chain

@@ -1,6 +1,6 @@
 use Rattle.std.proofs.Common.{sym, ap, ◌∙◌}
 use Rattle.std.proofs.lemmas.Result.{on_ok_weaker}
-use Rattle.cl_bound.specs.Bounds.{Lengths}
+use Rattle.cl_hop.specs.Bounds.{Lengths}
 use Rattle.cl_analyse.specs.Verdicts.{limited_bound}
 use Rattle.cl_report.proofs.TightLines.{tight_chains_within}
 use Rattle.cl_verify.proofs.ByFindings.{chains_of_findings}
