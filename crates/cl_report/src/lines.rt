@@ -47,7 +47,7 @@ pub fn put_report(text: &mut Text, model: &ValidModel, findings: &Findings) -> R
 }
 
 /// Puts the lines of all tasks in file order. There is one answer for each task.
-pub(crate) fn put_tasks(
+pub fn put_tasks(
     text: &mut Text,
     model: &ValidModel,
     tasks: &List<TaskAnswer>,
@@ -143,7 +143,7 @@ pub fn put_chain(
 }
 
 /// Puts the bounds of a chain, or the late task that leaves it without bounds.
-pub(crate) fn put_chain_answer(
+pub fn put_chain_answer(
     text: &mut Text,
     model: &ValidModel,
     answer: &ChainAnswer,

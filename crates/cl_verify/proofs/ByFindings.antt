@@ -14,8 +14,8 @@ use Rattle.cl_analyse.specs.{declared.findings.{ChainAnswer.ChainAnswer, Verdict
 use Rattle.cl_analyse.specs.declared.findings.ChainAnswer.TheVariants as chain
 use Rattle.cl_analyse.specs.declared.findings.Verdict.TheVariants as verdict
 use Rattle.cl_tight.specs.{declared.findings.TightFindings.TightFindings, TightAnswers.tight_answers_of, TightFindings.{tight_chain_answers_of, has_exact_bounds, exact_bound, tight_verdict_of, tight_findings_of}}
-use Rattle.cl_tight.proofs.TightTasks.{phased_answer}
-use Rattle.cl_report.proofs.{ReportLines.{task_answer, chain_answer_in}, TightLines.{tight_tasks_found, tight_chains_within}}
+use Rattle.cl_tight.proofs.{TightTasks.phased_answer, TightLengths.{tight_tasks_found, tight_chains_within}}
+use Rattle.cl_report.proofs.ReportLines.{task_answer, chain_answer_in}
 use Rattle.cl_verify.specs.declared.decision.TaskDecision.TheVariants as task
 use Rattle.cl_verify.specs.{declared.decision.Decision.Decision, Decisions.{IsDecisionOnTask, IsDecisionByRuns, IsDecisionOn, tight_bound}, Witnesses.settled_response}
 use Rattle.cl_verify.specs.declared.decision.Decision.TheVariants as requirement

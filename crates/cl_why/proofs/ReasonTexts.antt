@@ -9,9 +9,8 @@ use Rattle.cl_bound.specs.{Answers.{answer_at, NoneIsLate}, declared.answer.Task
 use Rattle.cl_phase.specs.{TightBounds.tight_bounds, declared.whole.WholeWalk.WholeWalk, Whole.IsWholeWalkOf}
 use Rattle.cl_analyse.specs.{declared.findings.ChainAnswer.{ChainAnswer, TheVariants.{Bounds, Late}}, Verdicts.{limited_bound, verdict_at}}
 use Rattle.cl_tight.specs.{declared.findings.TightFindings.TightFindings, TightTimings.tight_timing, TightFindings.{tight_chain_answer_of, tight_chain_answers_of, tight_findings_of}}
-use Rattle.cl_tight.proofs.{TightChains.tight_given, TightLists.required_known}
+use Rattle.cl_tight.proofs.{TightChains.tight_given, TightLists.required_known, TightLengths.{tight_chains_found, tight_late_known}}
 use Rattle.cl_report.specs.Report.{chain_line}
-use Rattle.cl_report.proofs.TightLines.{tight_chains_found, tight_late_known}
 use Rattle.cl_verify.specs.{declared.decision.{TaskDecision.TaskDecision, Decision.Decision}, Decisions.{IsDecisionOnTask, IsDecisionOn}, VerifyText.{task_decision_line, decision_line}}
 use Rattle.cl_verify.specs.declared.decision.Decision.TheVariants as requirement
 use Rattle.cl_verify.proofs.{ByFindings.{tasks_of_findings, chain_found}, DecisionLines.late_answered}

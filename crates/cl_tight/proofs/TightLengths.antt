@@ -1,4 +1,4 @@
--- The answers that the lines of tight findings print.
+-- How many answers tight findings have, and which late tasks they name.
 use Rattle.std.proofs.Common.{◌≡◌, ℕ, ◌<◌, Some, None, Option, List, length, refl, sym, ap, ◌∙◌, subst}
 use Rattle.std.specs.Prelude.{All, find}
 use Rattle.std.specs.Option.{option_map}

@@ -1,8 +1,8 @@
 use Rattle.std.proofs.Common.{rules}
 use Rattle.std.proofs.lemmas.List.{append_assoc}
-use Rattle.cl_report.specs.Tight.{tight_text}
-use Rattle.cl_report.proofs.TightLines.{tight_tasks_found, tight_chains_found}
-use Rattle.cl_report.proofs.tight.tight_report.Goals as goal
+use Rattle.cl_tight.proofs.TightLengths.{tight_tasks_found, tight_chains_found}
+use Rattle.cl_tighten.specs.Tight.{tight_text}
+use Rattle.cl_tighten.proofs.tight.tight_report.Goals as goal
 
 pub put_tasks-requires : goal.put_tasks-requires
 put_tasks-requires c = tight_tasks_found c.args.model.now c.args.findings.now c.requires

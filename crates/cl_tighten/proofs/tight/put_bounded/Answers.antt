@@ -1,9 +1,10 @@
 use Rattle.std.proofs.Common.{ℕ, ◌<◌, ◌++◌, length, sym, ap, ◌∙◌, arith}
-use Rattle.cl_analyse.specs.{declared.findings.ChainAnswer.ChainAnswer, ChainAnswers.chain_answer_at}
 use Rattle.cl_text.proofs.MoreLines.{line_more}
-use Rattle.cl_report.specs.Tight.{tight_chain_line}
-use Rattle.cl_report.proofs.{ReportLines.chain_answer_in, TightLines.{tight_chains_within, tight_late_known}}
-use Rattle.cl_report.proofs.tight.put_bounded.Goals as goal
+use Rattle.cl_analyse.specs.{declared.findings.ChainAnswer.ChainAnswer, ChainAnswers.chain_answer_at}
+use Rattle.cl_tight.proofs.TightLengths.{tight_chains_within, tight_late_known}
+use Rattle.cl_report.proofs.ReportLines.{chain_answer_in}
+use Rattle.cl_tighten.specs.Tight.{tight_chain_line}
+use Rattle.cl_tighten.proofs.tight.put_bounded.Goals as goal
 
 pub put_tight_chain-requires-clause-known : goal.put_tight_chain-requires-clause-known
 put_tight_chain-requires-clause-known c =

@@ -2,12 +2,11 @@
 ghost use Rattle.std.specs.Prelude.{◌≡◌, ℕ, ◌<◌, ◌++◌, length, OnOk, IfOk};
 ghost use Rattle.cl_analyse.specs.declared.findings.ChainAnswer.TheVariants.{Late};
 ghost use Rattle.cl_tight.specs.TightFindings.{tight_chain_answers_of, tight_findings_of};
-ghost use Rattle.cl_report.specs.Tight.{tight_words, tight_chain_line, tight_chain_lines, tight_text};
+ghost use Rattle.cl_tighten.specs.Tight.{tight_words, tight_chain_line, tight_chain_lines, tight_text};
 
-use crate::lines::{put_bounds, put_chain_answer, put_tasks};
-use crate::words::put_chain_name;
 use cl_analyse::ChainAnswer;
 use cl_model::{List, ValidModel};
+use cl_report::{put_bounds, put_chain_answer, put_chain_name, put_tasks};
 use cl_text::Text;
 use cl_tight::TightFindings;
 use cl_time::NoMemory;
