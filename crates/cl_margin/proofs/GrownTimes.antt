@@ -16,7 +16,7 @@ use Rattle.cl_runs.specs.{Priorities.{is_above, is_below}, SystemOf.{range_of, t
 use Rattle.cl_resp.specs.{Clear.greatest_through, LesserTimes.TakesNoMore, Question.{hold_of, longest_hold, lower_block_of}}
 use Rattle.cl_resp.proofs.Filters.{filter-map}
 use Rattle.cl_tight.specs.LongerTimes.{IsNoLonger}
-use Rattle.cl_tune.specs.Scaled.{scaled_time, scaled_runnable, scaled_task}
+use Rattle.cl_scale.specs.Scaled.{scaled_time, scaled_runnable, scaled_task}
 use Rattle.cl_margin.specs.{declared.whose.Whose.{Whose, TheVariants.{EveryTask, OneTask}}, Grown.{percent_of, grown_greatest, grown}}
 use Rattle.cl_margin.proofs.GrownSystem.{grown_timing, system_count, timing_grown, timings_grown, systems_alike}
 

@@ -16,7 +16,7 @@ use Rattle.cl_stim.specs.{AnyStimulus.{kind_of, as_stimulus}, Releases.most_rele
 use Rattle.cl_resp.specs.{declared.question.{Above.Above, Question.Question}, Question.{hold_of, longest_hold, block_of, taken_by, question_of}, Response.{Response, demand, response_to, AsksNoMore}}
 use Rattle.cl_resp.proofs.{Filters.filter-map, LessAsked.answered_no_later}
 use Rattle.cl_bound.specs.{declared.answer.TaskAnswer.{TaskAnswer, TheVariants.Late}, Answers.{answer_with, answer_to, answers_of, answer_at, is_late, response_in}}
-use Rattle.cl_tune.specs.Scaled.{scaled_time, scaled_runnable, scaled_task, scaled}
+use Rattle.cl_scale.specs.Scaled.{scaled_time, scaled_runnable, scaled_task, scaled}
 
 -- ---- times
 

@@ -12,7 +12,7 @@ use Rattle.cl_comm.proofs.Responses.{reads_stay, ends_rise}
 use Rattle.cl_hop.specs.{Bounds.{Lengths, AreBoundsOf}, Hops.group_timing, NoGreater.{StaysWithin, AreNoGreater}}
 use Rattle.cl_hop.proofs.NoGreater.{bounds_no_greater}
 use Rattle.cl_bound.specs.{Answers.{answers_of, answer_at, is_late, response_in, NoneIsLate}, Bounds.{settled_timing, settled_timings}}
-use Rattle.cl_tune.specs.Scaled.{scaled_runnable, scaled}
+use Rattle.cl_scale.specs.Scaled.{scaled_runnable, scaled}
 use Rattle.cl_tune.proofs.ScaledAnswers.{timing, tasks_are, answer_sooner}
 
 -- ---- what doesn't depend on greatest times

@@ -1,6 +1,6 @@
 use Rattle.std.proofs.Common.{◌≡◌, take, map}
-use Rattle.cl_tune.specs.Scaled.{scaled_task}
-use Rattle.cl_tune.proofs.scaling.scaled_tasks.Given as goal
+use Rattle.cl_scale.specs.Scaled.{scaled_task}
+use Rattle.cl_scale.proofs.scaling.scaled_tasks.Given as goal
 
 -- the copies of the tasks so far
 abbrev pub invariant-loop-task : goal.invariant-loop-task

@@ -6,8 +6,8 @@ use Rattle.std.proofs.lemmas.List.Elements.{All-map}
 use Rattle.std.proofs.lemmas.Simd.{map-map}
 use Rattle.cl_model.specs.{declared.{model.SystemModel.SystemModel, task.{RunnableDef.RunnableDef, TaskDef.TaskDef}}, Ranges.IsInRange, Validity.IsValid}
 use Rattle.cl_model.proofs.ListFacts.{maps_agree}
-use Rattle.cl_tune.specs.Scaled.{scaled_runnable, scaled_task, scaled}
-use Rattle.cl_tune.proofs.BareModels.{bare_runnable, bare_task, bare_model, IsOrdered, AreOrdered, valid_but_times}
+use Rattle.cl_scale.specs.Scaled.{scaled_runnable, scaled_task, scaled}
+use Rattle.cl_scale.proofs.BareModels.{bare_runnable, bare_task, bare_model, IsOrdered, AreOrdered, valid_but_times}
 
 -- scaled times are in order
 pub scaled_ordered : (percent : ℕ) (task : TaskDef) → AreOrdered (scaled_task percent task)

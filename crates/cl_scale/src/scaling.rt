@@ -1,7 +1,7 @@
 //! Copies of a model whose greatest execution times are scaled. Times are in ticks.
 ghost use Rattle.std.specs.Prelude.{◌≡◌, ◌≤◌, map, IfOk, All};
 ghost use Rattle.cl_model.specs.Ranges.{IsRunnableInRange, IsTaskInRange, IsInRange};
-ghost use Rattle.cl_tune.specs.Scaled.{scaled_time, scaled_runnable, scaled_task, scaled};
+ghost use Rattle.cl_scale.specs.Scaled.{scaled_time, scaled_runnable, scaled_task, scaled};
 
 use crate::percent::MOST_PERCENT;
 use cl_model::{List, MOST_TICKS, RunnableDef, SystemModel, TaskDef, TryCopy};
@@ -86,11 +86,7 @@ fn scaled_tasks(alloc: Global, tasks: &[TaskDef], percent: u64) -> Result<List<T
 
 /// Copies a model and scales the greatest times of all runnables.
 #[tactic(auto, unfolding(crate::specs::Scaled::scaled))]
-pub(crate) fn scaled(
-    alloc: Global,
-    model: &SystemModel,
-    percent: u64,
-) -> Result<SystemModel, NoMemory>
+pub fn scaled(alloc: Global, model: &SystemModel, percent: u64) -> Result<SystemModel, NoMemory>
     requires percent { percent ≤ MOST_PERCENT }
     requires in_range { IsInRange model.now }
     ensures { IfOk result (λ copy. copy ≡ scaled model.now percent) }

@@ -3,7 +3,7 @@ use Rattle.std.proofs.Common.{◌≡◌, ℕ, List, get_or, map, ap, ◌∙◌}
 use Rattle.std.proofs.lemmas.Simd.{map-map}
 use Rattle.cl_model.specs.{declared.{chain.ChainDef.ChainDef, model.SystemModel.SystemModel, task.RunnableDef.RunnableDef}, ByNumber.{no_chain, chain_at}, Groups.{step_named, steps_of, groups, groups_of, groups_at}}
 use Rattle.cl_model.proofs.{KeptLookUps.{names_in, same_step}, ListFacts.maps_agree, NamedAlike.maps_through}
-use Rattle.cl_tune.proofs.BareModels.{bare_runnable, bare_task, bare_model}
+use Rattle.cl_scale.proofs.BareModels.{bare_runnable, bare_task, bare_model}
 
 module _ (model other : SystemModel) (alike : bare_model other ≡ bare_model model) where
   named_alike : map names_in other.tasks ≡ map names_in model.tasks
