@@ -5,7 +5,7 @@ use Rattle.std.specs.Prelude.{if◌then◌else◌}
 use Rattle.std.proofs.lemmas.Bool.Decides.{nat_tests}
 use Rattle.cl_model.specs.declared.{chain.{LengthKind.{LengthKind, TheVariants.{Reaction, Age, Reduced}}, RequirementKind.{RequirementKind, TheVariants.{Length, Delay}}}, group.Group.Group}
 use Rattle.cl_runs.specs.{TaskTiming.System, Run.Run, Chains.{JobChain, chain_length, last_group}, RunChains.run_moments, Requirements.{IsChainOfKind, IsChainRequired}}
-use Rattle.cl_bound.specs.{Bounds.Lengths, Promises.AreAtLeast}
+use Rattle.cl_hop.specs.{Bounds.Lengths, Promises.AreAtLeast}
 use Rattle.cl_exact.specs.{Hyperperiod.period_of, ExactLengths.{Witnesses, chain_of}, RunPromises.{AreGreatestIn, AreAttainedIn}}
 use Rattle.cl_analyse.specs.{declared.findings.{ChainAnswer.ChainAnswer, ExactAnswer.{ExactAnswer, TheVariants.{Exact, Past, NotTimed, ChainLate}}, Verdict.TheVariants.{Met, Broken, Unshown}}, Verdicts.{witness_of_kind, limited_bound, required_bound, required_exact, verdict_on}}
 use Rattle.cl_analyse.specs.declared.findings.ChainAnswer.TheVariants as bounded

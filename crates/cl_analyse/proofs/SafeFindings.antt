@@ -10,9 +10,10 @@ use Rattle.cl_model.specs.{declared.{model.SystemModel.SystemModel, chain.Requir
 use Rattle.cl_model.proofs.{GroupFacts.groups_at_are, StepFacts.step_is_known, NamesKnown.steps_known}
 use Rattle.cl_runs.specs.{SystemOf.system_of, Chains.last_group, Requirements.{IsChainRequired, required_chain, no_requirement, requirement_at, IsKept, IsBroken}, Responses.AlwaysFinishesWithin}
 use Rattle.cl_runs.proofs.{ModelSystem.{count_is, system_sound}, Extension.some_legal, FirstFound.first_found}
+use Rattle.cl_hop.specs.{Bounds.{Lengths, AreBoundsOf}, Promises.AreSafe}
 use Rattle.cl_resp.specs.Response.{Response, IsSettled}
 use Rattle.cl_resp.proofs.BusyWindowTask.{settled_finish}
-use Rattle.cl_bound.specs.{declared.answer.TaskAnswer.TaskAnswer, Answers.{answers_of, answer_at, is_late, response_in}, Bounds.{Lengths, AreBoundsOf, settled_timings, bounds_of}, Promises.AreSafe, SettledChains.IsSettledChain}
+use Rattle.cl_bound.specs.{declared.answer.TaskAnswer.TaskAnswer, Answers.{answers_of, answer_at, is_late, response_in}, Bounds.{settled_timings, bounds_of}, SettledChains.IsSettledChain}
 use Rattle.cl_bound.specs.declared.answer.TaskAnswer.TheVariants as answer
 use Rattle.cl_bound.proofs.{ModelGroups.settled_chain, SettledTasks.settled_task, SettledChains.{settled_sums, settled_safe}}
 use Rattle.cl_exact.specs.{TimedPeriodic.is_timed_periodic_chain, Hyperperiod.period_of, ExactLengths.{Witnesses, chain_of}, RunPromises.AreExactInRuns}

@@ -2,8 +2,9 @@
 use Rattle.std.specs.Prelude.{◌≡◌, ℕ, ◌<◌, ◌≤◌, false, length}
 use Rattle.cl_model.specs.{declared.model.SystemModel.SystemModel, ByNumber.chain_at, Groups.{steps_of, step_at, groups_at}}
 use Rattle.cl_runs.specs.{TaskTiming.timing_at, SystemOf.system_of, Requirements.{requirement_at, IsKept, IsBroken}, Responses.AlwaysFinishesWithin}
+use Rattle.cl_hop.specs.{Bounds.Lengths, Promises.AreSafe}
 use Rattle.cl_resp.specs.{declared.question.Question.Question, Question.question_of, Response.{Response, HasNoFixpoint}}
-use Rattle.cl_bound.specs.{declared.answer.TaskAnswer.TheVariants.Settled, Answers.answer_at, Bounds.Lengths, Promises.AreSafe}
+use Rattle.cl_bound.specs.{declared.answer.TaskAnswer.TheVariants.Settled, Answers.answer_at}
 use Rattle.cl_exact.specs.{TimedPeriodic.is_timed_periodic_chain, Hyperperiod.{hyper_limit, IsPastLimit}, ExactLengths.Witnesses, RunPromises.AreExactInRuns}
 use Rattle.cl_analyse.specs.{declared.findings.{ChainAnswer.TheVariants.{Bounds, Late}, ExactAnswer.{ExactAnswer, TheVariants.{Exact, Past, NotTimed, ChainLate}}, Verdict.TheVariants.{Met, Broken}, Findings.Findings}, ChainAnswers.{chain_answer_at, exact_answer_at}, Verdicts.verdict_at}
 

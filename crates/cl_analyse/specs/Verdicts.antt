@@ -2,7 +2,7 @@
 use Rattle.std.specs.Prelude.{ℕ, Bool, true, false, List, map, slice_index_or, Option, Some, None, nat_le, if◌then◌else◌}
 use Rattle.cl_model.specs.declared.{model.SystemModel.SystemModel, chain.{LengthKind.{LengthKind, TheVariants.{Reaction, Age, Reduced}}, RequirementKind.{RequirementKind, TheVariants.{Length, Delay}}, RequirementDef.RequirementDef}}
 use Rattle.cl_runs.specs.Requirements.{required_chain}
-use Rattle.cl_bound.specs.Bounds.{Lengths}
+use Rattle.cl_hop.specs.Bounds.{Lengths}
 use Rattle.cl_exact.specs.{declared.witness.Witness.Witness, ExactLengths.Witnesses}
 use Rattle.cl_analyse.specs.{declared.findings.{ChainAnswer.ChainAnswer, ExactAnswer.ExactAnswer, Verdict.{Verdict, TheVariants.{Met, Broken, Unshown}}}, ChainAnswers.{chain_answer_at, exact_answer_at}}
 use Rattle.cl_analyse.specs.declared.findings.ChainAnswer.TheVariants as bounded

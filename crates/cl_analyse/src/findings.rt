@@ -2,8 +2,9 @@
 ghost use Rattle.std.specs.Prelude.{◌≡◌};
 ghost use Rattle.cl_analyse.specs.Verdicts.{bound_value, exact_value, required_bound, required_exact};
 
-use cl_bound::{Bounds, TaskAnswer};
+use cl_bound::TaskAnswer;
 use cl_exact::ExactLengths;
+use cl_hop::Bounds;
 use cl_model::{LengthKind, List, RequirementKind};
 
 /// What is found of the bounds of a chain.

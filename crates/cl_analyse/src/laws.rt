@@ -2,7 +2,8 @@
 ghost use Rattle.std.specs.Prelude.{◌≡◌, ℕ, ◌<◌, true, false, length, All};
 ghost use Rattle.cl_model.specs.{declared.model.SystemModel.SystemModel, Groups.groups_at, Validity.IsValid};
 ghost use Rattle.cl_runs.specs.{SystemOf.system_of, Requirements.{requirement_at, IsKept, IsBroken, MeetsDeadlines, IsInTime}};
-ghost use Rattle.cl_bound.specs.{declared.answer.TaskAnswer.TaskAnswer, Answers.{answers_of, is_late}, Bounds.{Lengths, AreBoundsOf, settled_timings}};
+ghost use Rattle.cl_hop.specs.Bounds.{Lengths, AreBoundsOf};
+ghost use Rattle.cl_bound.specs.{declared.answer.TaskAnswer.TaskAnswer, Answers.{answers_of, is_late}, Bounds.settled_timings};
 ghost use Rattle.cl_exact.specs.ExactLengths.{Witnesses};
 ghost use Rattle.cl_analyse.specs.{declared.findings.{ChainAnswer.TheVariants.Bounds, ExactAnswer.TheVariants.Exact, Findings.Findings, Verdict.{Verdict, TheVariants.{Met, Broken}}}, ChainAnswers.{chain_answers_of, chain_answer_at, exact_answer_at}, Findings.AreFindings};
 ghost use Rattle.cl_analyse.specs.{Headline.{AreWithinBounds, AreSafeFindings}, Verdicts.{verdict_at, is_met}};

@@ -7,9 +7,10 @@ use Rattle.std.proofs.Math.ListN.{length-map}
 use Rattle.cl_model.specs.{declared.{limits.TheConstants.{MOST_TICKS, MOST_STEPS}, model.SystemModel.SystemModel, group.Group.Group}, Groups.{IsGroupOf, no_group}, Validity.IsValid}
 use Rattle.cl_runs.specs.SystemOf.{system_of}
 use Rattle.cl_runs.proofs.ModelSystem.{system_sound}
-use Rattle.cl_bound.specs.{declared.{group_timing.GroupTiming.GroupTiming, sums.Sums.Sums}, Answers.{answers_of, NoneIsLate}, Bounds.{Lengths, greatest_reaction, greatest_age, greatest_reduced, greatest_delay, AreBoundsOf, settled_timing, settled_timings, bounds_of}}
-use Rattle.cl_bound.specs.{SettledChains.{IsSettledChain, AreWithin}, Inner.Sums.{IsBound, sums_of, HaveBounds, AreBoundsIn}}
-use Rattle.cl_bound.proofs.{ModelGroups.{settled_chain, distance_near}, SettledChains.{settled_sums, AreLimited, limited, reaction_positive, age_positive, reduced_positive, delay_positive}}
+use Rattle.cl_hop.specs.{declared.{group_timing.GroupTiming.GroupTiming, sums.Sums.Sums}, Bounds.{Lengths, greatest_reaction, greatest_age, greatest_reduced, greatest_delay, AreBoundsOf}, Sums.{IsBound, sums_of, HaveBounds, AreBoundsIn}}
+use Rattle.cl_hop.proofs.ModelGroups.{distance_near}
+use Rattle.cl_bound.specs.{Answers.{answers_of, NoneIsLate}, Bounds.{settled_timing, settled_timings, bounds_of}, SettledChains.{IsSettledChain, AreWithin}}
+use Rattle.cl_bound.proofs.{ModelGroups.settled_chain, SettledChains.{settled_sums, AreLimited, limited, reaction_positive, age_positive, reduced_positive, delay_positive}}
 
 -- a list that isn't empty, by its first item and the rest
 first_and_rest : (groups : List Group) → 0 < length groups → groups ≡ get_or groups 0 no_group ∷ drop 1 groups

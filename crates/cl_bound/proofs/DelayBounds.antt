@@ -6,8 +6,10 @@ use Rattle.std.proofs.lemmas.List.Elements.{All-head}
 use Rattle.cl_model.specs.{declared.{group.Group.Group, task.AccessKind.{AccessKind, TheVariants.Timed}}, Timing.greatest_distance}
 use Rattle.cl_runs.specs.{TaskTiming.{System, timing_at, IsSound}, Chains.first_group}
 use Rattle.cl_comm.specs.Windows.{spot_at, window_of}
-use Rattle.cl_bound.specs.{Answers.{answers_of, answer_at, response_in}, Bounds.{greatest_reaction, greatest_delay, settled_timing, settled_timings, bounds_of}, Hops.group_timing, SettledChains.IsSettledChain, declared.group_timing.GroupTiming.GroupTiming}
-use Rattle.cl_bound.proofs.{GroupWindows.IsProper, SettledChains.{chain_proper, settled_sums}}
+use Rattle.cl_hop.specs.{Bounds.{greatest_reaction, greatest_delay}, Hops.group_timing, declared.group_timing.GroupTiming.GroupTiming}
+use Rattle.cl_hop.proofs.GroupWindows.{IsProper}
+use Rattle.cl_bound.specs.{Answers.{answers_of, answer_at, response_in}, Bounds.{settled_timing, settled_timings, bounds_of}, SettledChains.IsSettledChain}
+use Rattle.cl_bound.proofs.SettledChains.{chain_proper, settled_sums}
 
 -- it is less by as much as the first group reads before its next job arrives
 delay_of_reaction : (first : GroupTiming) (groups : List GroupTiming)

@@ -9,8 +9,10 @@ use Rattle.std.proofs.Math.ListN.{length-map}
 use Rattle.std.proofs.lemmas.List.{get_or-map}
 use Rattle.cl_model.specs.{declared.{limits.TheConstants.MOST_STEPS, model.SystemModel.SystemModel, group.Group.Group}, Groups.{IsGroupOf, no_group}, Validity.IsValid}
 use Rattle.cl_runs.specs.{TaskTiming.System, SystemOf.system_of}
-use Rattle.cl_bound.specs.{declared.{group_timing.GroupTiming.GroupTiming, sums.Sums.Sums}, Answers.{answers_of, answer_at, is_late, NoneIsLate}, Bounds.{Lengths, settled_timing, settled_timings, bounds_of}, Inner.Sums.{sums_with, sums_of, HaveBounds, AreBoundsIn}}
-use Rattle.cl_bound.proofs.{LoopSums.more_sums, BoundSums.{have_bounds, bounds_are}, SettledChains.only_bounds}
+use Rattle.cl_hop.specs.{declared.{group_timing.GroupTiming.GroupTiming, sums.Sums.Sums}, Bounds.Lengths, Sums.{sums_with, sums_of, HaveBounds, AreBoundsIn}}
+use Rattle.cl_hop.proofs.LoopSums.{more_sums}
+use Rattle.cl_bound.specs.{Answers.{answers_of, answer_at, is_late, NoneIsLate}, Bounds.{settled_timing, settled_timings, bounds_of}}
+use Rattle.cl_bound.proofs.{BoundSums.{have_bounds, bounds_are}, SettledChains.only_bounds}
 
 module _ (model : SystemModel) (valid : IsValid model) (groups : List Group) (few : length groups ≤ MOST_STEPS)
     (of_tasks : All (IsGroupOf model) groups) (timely : NoneIsLate (answers_of (system_of model)) groups) where

@@ -3,7 +3,8 @@ use Rattle.std.proofs.Common.{◌≡◌, ℤ, pos, List, [], ◌∷◌, refl, ap
 use Rattle.std.specs.Prelude.{◌+ℤ◌, ◌-ℤ◌, nat_abs, map}
 use Rattle.cl_model.specs.declared.group.Group.{Group}
 use Rattle.cl_runs.specs.TaskTiming.{System}
-use Rattle.cl_bound.specs.{declared.group_timing.GroupTiming.GroupTiming, Hops.{lag, forward_hop, backward_hop, hops}, Bounds.{last_of, greatest_reaction, greatest_reduced, greatest_age, greatest_delay, Lengths, settled_timings, bounds_of}, Ends.{Ends, ends_of, lags_from, lags}}
+use Rattle.cl_hop.specs.{declared.group_timing.GroupTiming.GroupTiming, Hops.{lag, forward_hop, backward_hop, hops}, Bounds.{last_of, greatest_reaction, greatest_reduced, greatest_age, greatest_delay, Lengths}, Ends.{Ends, ends_of, lags_from, lags}}
+use Rattle.cl_bound.specs.Bounds.{settled_timings, bounds_of}
 
 -- where a kind of hop is told by the ends of its two groups and by its lag, so is the sum of such hops
 same_hops : (kind : GroupTiming → GroupTiming → ℤ)

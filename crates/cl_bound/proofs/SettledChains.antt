@@ -5,11 +5,13 @@ use Rattle.std.proofs.Math.ListN.{length-map}
 use Rattle.std.proofs.lemmas.List.Elements.{All-map}
 use Rattle.cl_model.specs.{declared.group.Group.Group, Groups.{no_group, group_at}}
 use Rattle.cl_runs.specs.{TaskTiming.{System, IsSound}, Table.job_at, Run.{Run, jobs_of}, Legal.IsLegal, Chains.{IsEarliestReader, IsLatestWriter}, RunChains.run_moments}
+use Rattle.cl_hop.specs.{Hops.{forward_hop, backward_hop}, declared.group_timing.GroupTiming.GroupTiming, Bounds.{Lengths, AreBoundsOf}, Promises.AreSafe}
+use Rattle.cl_hop.proofs.{GroupWindows.{IsProper, group_proper}, HopBounds.{forward_arrival, backward_arrival}, ChainBounds.{AreAlwaysKept, at_least}, KeptWindows.timely_keeps, SumsOfHops.{IsAtMost, reaction_absolute, age_absolute, reduced_absolute, delay_absolute, reaction_some}}
+use Rattle.cl_hop.proofs.SumsOfHops.{age_some, reduced_some, delay_some, reaction_at_most, age_at_most, reduced_at_most, delay_at_most}
 use Rattle.cl_resp.specs.Response.{IsSettled}
 use Rattle.cl_resp.proofs.{BusyWindowTask.settled_timely, SettledTasks.execution_in_response}
-use Rattle.cl_bound.specs.{Answers.{answers_of, answer_at, response_in}, Hops.{forward_hop, backward_hop}, declared.group_timing.GroupTiming.GroupTiming, Bounds.{Lengths, AreBoundsOf, settled_timing, settled_timings, bounds_of}, Promises.AreSafe, SettledChains.{IsSettledChain, AreWithin}}
-use Rattle.cl_bound.proofs.{SettledTasks.{settled_task, in_deadline}, GroupWindows.{IsProper, group_proper}, HopBounds.{forward_arrival, backward_arrival}, ChainBounds.{AreAlwaysKept, at_least}, KeptWindows.timely_keeps, SumsOfHops.{IsAtMost, reaction_absolute, age_absolute}}
-use Rattle.cl_bound.proofs.SumsOfHops.{reduced_absolute, delay_absolute, reaction_some, age_some, reduced_some, delay_some, reaction_at_most, age_at_most, reduced_at_most, delay_at_most}
+use Rattle.cl_bound.specs.{Answers.{answers_of, answer_at, response_in}, Bounds.{settled_timing, settled_timings, bounds_of}, SettledChains.{IsSettledChain, AreWithin}}
+use Rattle.cl_bound.proofs.SettledTasks.{settled_task, in_deadline}
 
 -- the response in the answer for a task of a system
 abbrev response_at : System → ℕ → ℕ

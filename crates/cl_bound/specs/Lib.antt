@@ -1,9 +1,3 @@
 pub mod Answers
-pub mod Hops
-pub mod Ends
 pub mod Bounds
-pub mod NoGreater
 pub mod SettledChains
-pub mod Timings
-pub mod Promises
-pub mod Inner

@@ -1,14 +1,9 @@
 -- Chains of a system none of whose tasks is late.
-use Rattle.std.specs.Prelude.{ℕ, ◌<◌, ◌≤◌, List, length, All}
+use Rattle.std.specs.Prelude.{ℕ, ◌≤◌, List, All}
 use Rattle.cl_model.specs.declared.group.Group.{Group}
-use Rattle.cl_runs.specs.TaskTiming.{System, timing_at}
+use Rattle.cl_runs.specs.TaskTiming.{System}
+use Rattle.cl_hop.specs.Timings.{IsGroupOfTask}
 use Rattle.cl_bound.specs.{Answers.{answers_of, NoneIsLate}, Bounds.settled_timing}
-
--- a group of a system: runnables of one of its tasks, of which the first doesn't stand behind the last
-pub record IsGroupOfTask (system : System) (group : Group) : Type 0 where
-  pub is_task : group.task < length system.tasks
-  pub ordered : group.first ≤ group.last
-  pub is_runnable : group.last < length (timing_at system group.task).ranges
 
 -- a chain of a system that isn't late: none of its tasks is
 pub record IsSettledChain (system : System) (groups : List Group) : Type 0 where

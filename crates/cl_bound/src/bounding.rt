@@ -3,12 +3,11 @@ ghost use Rattle.std.specs.Prelude.{◌≡◌, ℕ, ◌+◌, ◌^◌, ◌<◌, �
 ghost use Rattle.cl_model.specs.{declared.limits.TheConstants.MOST_STEPS, Groups.{groups_at, IsGroupOf}, Validity.IsValid};
 ghost use Rattle.cl_runs.specs.SystemOf.{system_of};
 ghost use Rattle.cl_stim.specs.Integers.{IsIntegerWithin};
-ghost use Rattle.cl_bound.specs.{Answers.{answers_of, answer_at, is_late, NoneIsLate}, Bounds.{AreBoundsOf, settled_timing, settled_timings, bounds_of}, Promises.AreSafe, Inner.Sums.sums_of};
+ghost use Rattle.cl_hop.specs.{Bounds.AreBoundsOf, Promises.AreSafe, Sums.sums_of};
+ghost use Rattle.cl_bound.specs.{Answers.{answers_of, answer_at, is_late, NoneIsLate}, Bounds.{settled_timing, settled_timings, bounds_of}};
 
 use crate::answer::TaskAnswer;
-use crate::bounds::Bounds;
-use crate::group_timing::GroupTiming;
-use crate::sums::Sums;
+use cl_hop::{Bounds, GroupTiming, Sums};
 use cl_model::{Group, List, MOST_STEPS, ValidModel};
 use cl_time::Steps;
 use std::sync::ledger::Ledger;

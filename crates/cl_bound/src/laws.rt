@@ -3,4 +3,3 @@ pub mod delays;
 pub mod hops;
 pub mod safety;
 pub mod sums;
-pub mod timings;

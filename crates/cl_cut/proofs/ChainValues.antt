@@ -7,7 +7,8 @@ use Rattle.cl_model.specs.{declared.{group.Group.Group, model.SystemModel.System
 use Rattle.cl_model.proofs.GroupFacts.{groups_at_are, groups_at_few, groups_at_some}
 use Rattle.cl_runs.specs.{TaskTiming.{System, IsSound}, SystemOf.system_of, MomentOrder.AreGroupsOf}
 use Rattle.cl_runs.proofs.{ChainsOfRuns.ideal_forward_ordered, Extension.some_legal, ModelSystem.system_sound}
-use Rattle.cl_bound.specs.{Answers.answers_of, Bounds.{Lengths, bounds_of}, SettledChains.IsSettledChain}
+use Rattle.cl_hop.specs.Bounds.{Lengths}
+use Rattle.cl_bound.specs.{Answers.answers_of, Bounds.bounds_of, SettledChains.IsSettledChain}
 use Rattle.cl_bound.proofs.{ModelGroups.settled_chain, SettledChains.{settled_safe, reaction_positive}}
 use Rattle.cl_exact.specs.{TimedPeriodic.{are_timed_periodic, is_timed_periodic_chain}, ExactLengths.{Witnesses, AreExactLengths, chain_of}}
 use Rattle.cl_exact.proofs.{RunExact.exact_in_runs, SomeExact.exact_lengths_exist}

@@ -8,7 +8,8 @@ use Rattle.std.proofs.lemmas.List.Sums.{sum_by-cons}
 use Rattle.cl_model.specs.{declared.group.Group.Group, Groups.{no_group, group_at}}
 use Rattle.cl_runs.specs.{TaskTiming.{System, IsSound}, Run.Run, Legal.IsLegal, Chains.{JobChain, chain_length, last_group, IsForwardChain}, MomentOrder.HaveReadBeforeWriting, RunChains.run_moments}
 use Rattle.cl_runs.proofs.{ChainParts.part_complete, ChainsOrdered.forward_ordered, MomentFacts.{has_read, earlier_read}, OrderedMoments.run_in_order}
-use Rattle.cl_bound.specs.{Answers.{answers_of, answer_at, is_late}, SettledChains.{IsGroupOfTask, IsSettledChain}}
+use Rattle.cl_hop.specs.Timings.{IsGroupOfTask}
+use Rattle.cl_bound.specs.{Answers.{answers_of, answer_at, is_late}, SettledChains.IsSettledChain}
 use Rattle.cl_bound.proofs.SettledChains.{settled_safe}
 use Rattle.cl_exact.specs.{TimedPeriodic.are_timed_periodic, RunPromises.IsSettledTimedChain}
 use Rattle.cl_exact.proofs.RunExact.{exact_in_runs}

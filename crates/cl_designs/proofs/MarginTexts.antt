@@ -11,8 +11,7 @@ use Rattle.cl_bound.specs.declared.answer.TaskAnswer.TheVariants as answer
 use Rattle.cl_analyse.specs.declared.findings.Verdict.TheVariants as verdict
 use Rattle.cl_analyse.specs.Verdicts.{is_met}
 use Rattle.cl_tight.specs.{declared.findings.TightFindings.TightFindings, TightFindings.{tight_findings_of, is_verified}}
-use Rattle.cl_tight.proofs.TightLaws.{verified_in_time}
-use Rattle.cl_report.proofs.TightLines.{tight_tasks_found, tight_verdicts_found}
+use Rattle.cl_tight.proofs.{TightLaws.verified_in_time, TightLengths.{tight_tasks_found, tight_verdicts_found}}
 use Rattle.cl_margin.specs.{declared.{answer.{Margin.Margin, Margins.Margins}, whose.Whose.{Whose, TheVariants.{EveryTask, OneTask}}}, Grown.{percent_of, grown_task, grown_by, grown}, Margins.{KeepsMet, IsMargin, no_margin, margin_at, AreMargins}}
 use Rattle.cl_margin.proofs.{GrownValid.grown_valid, OneMargin.{some_margin, only_one}}
 use Rattle.cl_designs.specs.Margins.{margin_text, IsMarginTextOf, StaysInTime, IsSafeMarginText}

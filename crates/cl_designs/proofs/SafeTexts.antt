@@ -3,7 +3,8 @@ use Rattle.std.proofs.Common.{ℕ, List, Option, Some, None}
 use Rattle.std.specs.Prelude.{IfSome}
 use Rattle.cl_model.specs.{declared.model.SystemModel.SystemModel, Validity.IsValid}
 use Rattle.cl_runs.specs.Requirements.{IsInTime}
-use Rattle.cl_tune.specs.{declared.answer.OrderAnswer.{OrderAnswer, TheVariants.{Order, NoOrder}}, BestOrders.IsOrderAnswer, Headroom.IsHeadroom, Scaled.scaled}
+use Rattle.cl_scale.specs.Scaled.{scaled}
+use Rattle.cl_tune.specs.{declared.answer.OrderAnswer.{OrderAnswer, TheVariants.{Order, NoOrder}}, BestOrders.IsOrderAnswer, Headroom.IsHeadroom}
 use Rattle.cl_tune.proofs.KeptInTime.{reordered_in_time, kept_in_time}
 use Rattle.cl_designs.specs.{Orders.{IsOrderTextOf, OrderIsSafe, IsSafeOrderText}, Headroom.{IsHeadroomTextOf, IsSafeHeadroomText}}
 

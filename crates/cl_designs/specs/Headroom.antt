@@ -3,7 +3,8 @@ use Rattle.std.specs.Prelude.{◌≡◌, ℕ, List, ◌++◌, codes, decimal, Op
 use Rattle.cl_text.specs.Line.{line}
 use Rattle.cl_model.specs.declared.model.SystemModel.{SystemModel}
 use Rattle.cl_runs.specs.Requirements.{IsInTime}
-use Rattle.cl_tune.specs.{Headroom.IsHeadroom, Scaled.scaled}
+use Rattle.cl_scale.specs.Scaled.{scaled}
+use Rattle.cl_tune.specs.Headroom.{IsHeadroom}
 
 -- the line of an answer
 abbrev pub percent_line : Option ℕ → List ℕ

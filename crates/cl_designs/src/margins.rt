@@ -1,10 +1,10 @@
 //! The text of the margins of a model.
 ghost use Rattle.std.specs.Prelude.{◌≡◌, ℕ, ◌<◌, ◌≤◌, ◌++◌, length, OnOk, IfOk, IfSome};
 ghost use Rattle.std.specs.List.{flat_map, range_with_len};
-ghost use Rattle.cl_tight.specs.TightFindings.{tight_findings_of};
 ghost use Rattle.cl_analyse.specs.Verdicts.{is_met};
+ghost use Rattle.cl_tight.specs.TightFindings.{tight_findings_of};
+ghost use Rattle.cl_scale.specs.declared.percent.TheConstants.{MOST_PERCENT};
 ghost use Rattle.cl_margin.specs.{declared.{answer.Breaks.TheVariants.{Task, Requirement}, whose.Whose.TheVariants.OneTask}, Margins.{is_met_task, is_met_requirement, margin_at, IsMargin, AreMargins}};
-ghost use Rattle.cl_tune.specs.declared.percent.TheConstants.{MOST_PERCENT};
 ghost use Rattle.cl_designs.specs.Margins.{requirement_name, late_task, late_line, late_lines, unmet_requirement, unmet_line, unmet_lines, broken_words, breaks_words, IsBreakOf, all_line, line_of, task_line, margin_text, IsMarginTextOf};
 
 use cl_analyse::Verdict;

@@ -4,9 +4,9 @@ use Rattle.std.specs.Prelude.{All, Result, Ok, Err, Some}
 use Rattle.std.specs.List.Sorted.{IsStrictlyIncreasing}
 use Rattle.cl_model.specs.{declared.{model.SystemModel.SystemModel, refusal.Refusal.Refusal}, ByNumber.{task_at, task_named}, Refusals.answer, Validity.refusals_of}
 use Rattle.cl_edit.specs.{declared.edit.Edit.Edit, Changing.change_of, Edited.{edited, edit_checks, with_edit}}
+use Rattle.cl_runs.specs.{SystemOf.system_of, ExecutionTimes.greatest_execution}
+use Rattle.cl_resp.specs.Question.{question_of, block_of, longest_hold}
 use Rattle.cl_analyse.specs.Headline.{question_at}
-use Rattle.cl_runs.specs.SystemOf.{system_of}
-use Rattle.cl_resp.specs.Question.{question_of, block_of, longest_hold, greatest_execution}
 use Rattle.cl_incr.specs.Changed.{IsChangedTask, IsChangedChain, AsksForChanges}
 use Rattle.cl_examples.specs.EditedModels.{two_cores_model, two_chains_model, longer_b, later_b, no_chain_ab, b_above_a}
 

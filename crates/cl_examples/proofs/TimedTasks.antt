@@ -2,8 +2,8 @@
 use Rattle.std.proofs.Common.{◌≡◌, ℕ, false, ◌<◌, refl, sym, ◌∙◌, arith}
 use Rattle.std.proofs.lemmas.List.Elements.{All-from_recursion}
 use Rattle.cl_model.specs.{declared.{group.Group.Group, task.AccessKind.TheVariants.Timed}, Groups.groups_of}
-use Rattle.cl_runs.specs.{TaskTiming.{timing_at, IsSoundTask, IsSound}, SystemOf.system_of}
-use Rattle.cl_resp.specs.{Question.{greatest_execution, longest_hold, block_of, question_of}, Response.{demand, busy_window, IsSettled}}
+use Rattle.cl_runs.specs.{TaskTiming.{timing_at, IsSoundTask, IsSound}, SystemOf.system_of, ExecutionTimes.greatest_execution}
+use Rattle.cl_resp.specs.{Question.{longest_hold, block_of, question_of}, Response.{demand, busy_window, IsSettled}}
 use Rattle.cl_resp.proofs.BusyWindowTask.{settled_timely}
 use Rattle.cl_exact.specs.{TimedPeriodic.are_timed_periodic, RunPromises.{HasResponse, HasItsRunnables, IsSettledTimedChain}}
 use Rattle.cl_examples.specs.{Examples.from_a_to_b, ExampleModel.{chain_ab, two_tasks_model}, TimedExample.timed_tasks, TimedModel.timed_model}

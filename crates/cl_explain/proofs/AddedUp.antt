@@ -4,12 +4,14 @@ use Rattle.std.specs.List.{filter, sum_by}
 use Rattle.std.proofs.lemmas.Int.{ints}
 use Rattle.std.proofs.lemmas.List.Sums.{sum_by-cons}
 use Rattle.cl_model.specs.{declared.model.SystemModel.SystemModel, Validity.IsValid}
-use Rattle.cl_runs.specs.{TaskTiming.{Timing, System, timing_at}, SystemOf.system_of, Priorities.is_above}
+use Rattle.cl_runs.specs.{TaskTiming.{Timing, System, timing_at}, SystemOf.system_of, Priorities.is_above, ExecutionTimes.greatest_execution}
 use Rattle.cl_runs.proofs.ModelSystem.{count_is, system_sound}
 use Rattle.cl_stim.specs.{AnyStimulus.kind_of, Releases.most_releases}
-use Rattle.cl_resp.specs.{declared.question.{Above.Above, Question.Question}, Question.{greatest_execution, taken_by, question_of}, Response.{Response, demand}}
-use Rattle.cl_resp.proofs.{SettledTasks.tasks_take_time, StimulusKinds.kind_of-as_stimulus, Windows.{window_is_fixpoint, no_window_holds}}
-use Rattle.cl_bound.specs.{declared.{answer.TaskAnswer.TheVariants.{Settled, Late}, group_timing.GroupTiming.GroupTiming}, Answers.{answers_of, answer_at}, Bounds.{Lengths, AreBoundsOf}}
+use Rattle.cl_stim.proofs.StimulusKinds.{kind_of-as_stimulus}
+use Rattle.cl_hop.specs.{declared.group_timing.GroupTiming.GroupTiming, Bounds.{Lengths, AreBoundsOf}}
+use Rattle.cl_resp.specs.{declared.question.{Above.Above, Question.Question}, Question.{taken_by, question_of}, Response.{Response, demand}}
+use Rattle.cl_resp.proofs.{SettledTasks.tasks_take_time, Windows.{window_is_fixpoint, no_window_holds}}
+use Rattle.cl_bound.specs.{declared.answer.TaskAnswer.TheVariants.{Settled, Late}, Answers.{answers_of, answer_at}}
 use Rattle.cl_explain.specs.{Parts.{time_above, time_over}, Promises.{sum_of_parts, AddUpToResponse, AddUpPastDeadline, AddUpToBounds}}
 use Rattle.cl_explain.proofs.{SettledWindows.{settled_window, settled_response, late_window}, AnswersByNumber.answer_is}
 

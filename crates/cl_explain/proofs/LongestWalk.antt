@@ -6,11 +6,11 @@ use Rattle.std.proofs.lemmas.Bool.{eqb-true, eq-eqb, false≢true}
 use Rattle.std.proofs.lemmas.List.FromFn.{length-map-range_with_len, get_or-map-range_with_len}
 use Rattle.cl_model.specs.{declared.{model.SystemModel.SystemModel, chain.{ChainDef.ChainDef, LengthKind.TheVariants.Reaction, RequirementKind.TheVariants.Length}, group.Group.Group}, Groups.{groups_of, groups_at}, ByNumber.chain_at, Holds.greatest_by, Validity.IsValid}
 use Rattle.cl_runs.specs.{TaskTiming.System, SystemOf.system_of}
-use Rattle.cl_bound.specs.Bounds.{Lengths}
+use Rattle.cl_hop.specs.Bounds.{Lengths}
 use Rattle.cl_phase.specs.{declared.stop.Stop.Stop, Pace.previous, Walks.{pace_at, last_place, onward, back}, TightBounds.{stops_of, span_of, last_write, slowest, hyperperiod_in, starts, ticks_or_none, length_from, bounds_from, tight_bounds}, Walked.{start_among, walk_start, missed}}
 use Rattle.cl_phase.specs.Walked.{taken, walked_of}
-use Rattle.cl_tight.specs.{TightTimings.tight_timing, TightFindings.tight_chain_answer_of}
 use Rattle.cl_analyse.specs.{declared.findings.ChainAnswer.TheVariants.Bounds, ChainAnswers.chain_answer}
+use Rattle.cl_tight.specs.{TightTimings.tight_timing, TightFindings.tight_chain_answer_of}
 use Rattle.cl_tight.proofs.TightChains.{tight_answer, tight_bounds_some}
 use Rattle.cl_explain.specs.Promises.{LastsAsLong, ShowsItsWalk}
 

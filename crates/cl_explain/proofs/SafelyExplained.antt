@@ -4,10 +4,11 @@ use Rattle.std.proofs.lemmas.List.{get_or-map}
 use Rattle.cl_model.specs.{declared.model.SystemModel.SystemModel, ByNumber.no_chain, Validity.IsValid}
 use Rattle.cl_runs.specs.{TaskTiming.timing_at, SystemOf.system_of, Responses.AlwaysFinishesWithin}
 use Rattle.cl_runs.proofs.ModelSystem.{count_is, system_sound}
-use Rattle.cl_bound.specs.{declared.group_timing.GroupTiming.GroupTiming, Answers.{answer_at, is_late}, Bounds.AreBoundsOf}
-use Rattle.cl_tight.specs.{TightAnswers.tight_answers_of, TightFindings.tight_chain_answer_of}
+use Rattle.cl_hop.specs.{declared.group_timing.GroupTiming.GroupTiming, Bounds.AreBoundsOf}
+use Rattle.cl_bound.specs.Answers.{answer_at, is_late}
 use Rattle.cl_analyse.specs.declared.findings.ChainAnswer.TheVariants.{Late}
 use Rattle.cl_analyse.proofs.SafeFindings.{responses_hold, bounds_hold, bounds_found, answer_of_chain}
+use Rattle.cl_tight.specs.{TightAnswers.tight_answers_of, TightFindings.tight_chain_answer_of}
 use Rattle.cl_tight.proofs.TightChains.{timely_task, tight_bounds_hold}
 use Rattle.cl_explain.specs.{Accepted.accepted_text, Explanation.explanation, Promises.{IsSafelyExplained, IsSafeExplanation, AreRightlyLate, IsSafeAcceptance}}
 use Rattle.cl_explain.proofs.{AddedUp.{settled_parts, late_parts, groups_sum}, LongestWalk.shows_walk, NoResponses.late_by_phase}

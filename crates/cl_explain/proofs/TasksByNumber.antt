@@ -3,11 +3,11 @@ use Rattle.std.proofs.Common.{◌≡◌, ℕ, ◌*◌, ◌<◌, Bool, true, fals
 use Rattle.std.specs.Prelude.{◌==◌, ◌&&◌}
 use Rattle.std.proofs.lemmas.Bool.{eqb-true, eq-eqb}
 use Rattle.cl_model.specs.{declared.{model.SystemModel.SystemModel, task.TaskDef.TaskDef, stimulus.StimulusKind.StimulusKind}, ByNumber.{task_at, core_of, stimulus_of, time_of}}
-use Rattle.cl_runs.specs.{TaskTiming.{Timing, timing_at}, SystemOf.{timing_of, system_of}, Priorities.{is_above, may_block, is_below}}
+use Rattle.cl_runs.specs.{TaskTiming.{Timing, timing_at}, SystemOf.{timing_of, system_of}, Priorities.{is_above, may_block, is_below}, ExecutionTimes.greatest_execution}
 use Rattle.cl_runs.proofs.ModelSystem.{timing_is}
 use Rattle.cl_stim.specs.{AnyStimulus.{kind_of, as_stimulus}, Releases.most_releases}
-use Rattle.cl_resp.specs.Question.{greatest_execution}
-use Rattle.cl_resp.proofs.{Questions.time_is, StimulusKinds.kind_of-as_stimulus}
+use Rattle.cl_stim.proofs.StimulusKinds.{kind_of-as_stimulus}
+use Rattle.cl_resp.proofs.Questions.{time_is}
 use Rattle.cl_explain.specs.Parts.{jobs_above, time_above, taken_part, above_part}
 
 and_same : (m n : ℕ) (x : Bool) → m ≡ n → x ≡ ((m == n) && x)

@@ -2,8 +2,8 @@
 use Rattle.std.proofs.Common.{◌≡◌, ℕ, zero, suc, ◌<◌, ◌≤◌, Option, Some, None, length, refl, sym, ◌∙◌, inl, inr, arith}
 use Rattle.std.specs.Option.{option_map}
 use Rattle.std.proofs.lemmas.Bool.{cases_lt}
-use Rattle.cl_runs.specs.TaskTiming.{System, timing_at, IsSound}
-use Rattle.cl_resp.specs.{Asked.{Asked, least_response, AnswersWithin, IsLeastResponse, ComesRound}, ByPhase.{asked_by_phase, response_by_phase}, Question.greatest_execution, Response.Response}
+use Rattle.cl_runs.specs.{TaskTiming.{System, timing_at, IsSound}, ExecutionTimes.greatest_execution}
+use Rattle.cl_resp.specs.{Asked.{Asked, least_response, AnswersWithin, IsLeastResponse, ComesRound}, ByPhase.{asked_by_phase, response_by_phase}, Response.Response}
 
 pub not_some : {X : Type 0} (x : X) → Some x ≡ None → ⊥
 not_some x is = absurd cc

@@ -3,13 +3,13 @@ use Rattle.std.proofs.Common.{◌≡◌, ℕ, ◌+◌, ◌-◌, ◌<◌, ◌≤�
 use Rattle.std.proofs.lemmas.List.{append_assoc}
 use Rattle.std.proofs.lemmas.List.FromFn.{length-map-range_with_len}
 use Rattle.cl_model.specs.{declared.{model.SystemModel.SystemModel, limits.TheConstants.MOST_STEPS, chain.{LengthKind.TheVariants.Reaction, RequirementKind.TheVariants.Length}, group.Group.Group}, Groups.groups_at, Validity.IsValid}
-use Rattle.cl_bound.specs.declared.group_timing.GroupTiming.{GroupTiming}
 use Rattle.cl_model.proofs.GroupFacts.{groups_at_some, groups_at_few}
 use Rattle.cl_runs.specs.SystemOf.{system_of}
+use Rattle.cl_hop.specs.declared.group_timing.GroupTiming.{GroupTiming}
 use Rattle.cl_phase.specs.{declared.walked.Walked.Walked, Pace.previous, Walks.{pace_at, last_place, onward, back}, TightBounds.{stops_of, span_of, last_write, slowest}, Walked.{walk_start, missed, taken, walked_of}}
+use Rattle.cl_phase.proofs.{SlowestFacts.slowest_within, StopFacts.length_stops}
 use Rattle.cl_tight.specs.TightTimings.{tight_timing}
 use Rattle.cl_explain.specs.Explanation.{arrival_lines, walk_lines}
-use Rattle.cl_phase.proofs.{SlowestFacts.slowest_within, StopFacts.length_stops}
 
 -- the walk that is found of the groups of a chain, from what is known of each, is that of the chain
 pub its_walk : (model : SystemModel) (chain : ℕ) (timings : List GroupTiming) (groups : List Group) (reaction : ℕ) (walk : Walked)

@@ -5,10 +5,11 @@ use Rattle.std.specs.List.{flat_map, range_with_len}
 use Rattle.cl_text.specs.Line.{line}
 use Rattle.cl_model.specs.{declared.model.SystemModel.SystemModel, ByNumber.{core_at, task_at, chain_at}, Groups.{group_at, groups_at}}
 use Rattle.cl_runs.specs.SystemOf.{system_of}
-use Rattle.cl_bound.specs.{declared.group_timing.GroupTiming.GroupTiming, Answers.{answers_of, answer_at}, Bounds.{Lengths, settled_timing}, Hops.{saves, forward_hop, backward_hop}}
-use Rattle.cl_tight.specs.{TightTimings.tight_timing, TightFindings.tight_chain_answer_of}
+use Rattle.cl_hop.specs.{declared.group_timing.GroupTiming.GroupTiming, Bounds.Lengths, Hops.{saves, forward_hop, backward_hop}}
+use Rattle.cl_bound.specs.{Answers.{answers_of, answer_at}, Bounds.settled_timing}
 use Rattle.cl_phase.specs.Walked.{walked_of}
 use Rattle.cl_analyse.specs.{declared.findings.ChainAnswer.{ChainAnswer, TheVariants.{Bounds, Late}}, ChainAnswers.chain_answer_of}
+use Rattle.cl_tight.specs.{TightTimings.tight_timing, TightFindings.tight_chain_answer_of}
 use Rattle.cl_report.specs.Report.{task_line, chain_line, bounds_words}
 use Rattle.cl_explain.specs.{Loads.{core_load, MILLION}, Parts.part_lines}
 

@@ -2,8 +2,7 @@
 use Rattle.std.specs.Prelude.{ℕ, ◌*◌, ◌/◌, ◌==◌, List, filter, sum_by}
 use Rattle.std.specs.Int.{div_ceil}
 use Rattle.cl_model.specs.declared.stimulus.StimulusKind.{StimulusKind, TheVariants.{Periodic, Sporadic, Burst}}
-use Rattle.cl_runs.specs.TaskTiming.{Timing, System}
-use Rattle.cl_resp.specs.Question.{greatest_execution}
+use Rattle.cl_runs.specs.{TaskTiming.{Timing, System}, ExecutionTimes.greatest_execution}
 
 abbrev pub MILLION : ℕ
 MILLION = 1000000

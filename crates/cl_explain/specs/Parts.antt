@@ -3,9 +3,9 @@ use Rattle.std.specs.Prelude.{ℕ, ◌-◌, ◌*◌, Bool, cond, ◌==◌, nat_l
 use Rattle.std.specs.List.{flat_map, range_with_len}
 use Rattle.cl_text.specs.Line.{line}
 use Rattle.cl_model.specs.{declared.{model.SystemModel.SystemModel, task.RunnableDef.RunnableDef}, Holds.runnable_hold, ByNumber.task_at}
-use Rattle.cl_runs.specs.{TaskTiming.{Timing, timing_at}, SystemOf.system_of, Priorities.{is_above, may_block, is_below}}
+use Rattle.cl_runs.specs.{TaskTiming.{Timing, timing_at}, SystemOf.system_of, Priorities.{is_above, may_block, is_below}, ExecutionTimes.greatest_execution}
 use Rattle.cl_stim.specs.Releases.{most_releases}
-use Rattle.cl_resp.specs.{declared.question.{Block.{Block, TheVariants.{OfLower, WithOwn}}, Question.Question}, Question.{greatest_execution, question_of}, Response.demand}
+use Rattle.cl_resp.specs.{declared.question.{Block.{Block, TheVariants.{OfLower, WithOwn}}, Question.Question}, Question.question_of, Response.demand}
 use Rattle.cl_bound.specs.declared.answer.TaskAnswer.{TaskAnswer, TheVariants.{Settled, Late}}
 
 -- the window over which releases are counted: that of the response; where the task is late, all of its deadline that the

@@ -1,13 +1,14 @@
 -- What an explanation promises: its numbers hold in every legal run, and add up. Times are in ticks.
 use Rattle.std.specs.Prelude.{◌≡◌, ℕ, ◌+◌, ◌-◌, ◌<◌, ◌≤◌, true, false, None, ℤ, pos, ◌+ℤ◌, ◌-ℤ◌, List, ◌∷◌, length, filter, sum_by, slice_index_or}
 use Rattle.cl_model.specs.{declared.{group.Group.Group, model.SystemModel.SystemModel}, ByNumber.chain_at, Groups.groups_at}
-use Rattle.cl_runs.specs.{SystemOf.system_of, Responses.AlwaysFinishesWithin, TaskTiming.{System, timing_at}, Priorities.is_above}
-use Rattle.cl_resp.specs.{Asked.AnswersWithin, ByPhase.{asked_by_phase, response_by_phase}, Question.{greatest_execution, question_of, tight_question_of}, Response.{Response, HasNoFixpoint}}
+use Rattle.cl_runs.specs.{SystemOf.system_of, Responses.AlwaysFinishesWithin, TaskTiming.{System, timing_at}, Priorities.is_above, ExecutionTimes.greatest_execution}
+use Rattle.cl_hop.specs.{Bounds.{Lengths, last_of}, Promises.AreSafe, Hops.{forward_hop, backward_hop, hops}, declared.group_timing.GroupTiming.GroupTiming}
+use Rattle.cl_resp.specs.{Asked.AnswersWithin, ByPhase.{asked_by_phase, response_by_phase}, Question.{question_of, tight_question_of}, Response.{Response, HasNoFixpoint}}
 use Rattle.cl_bound.specs.declared.answer.TaskAnswer.TheVariants as answer
-use Rattle.cl_bound.specs.{Answers.{answers_of, answer_at, is_late}, Bounds.{Lengths, last_of, settled_timings}, Promises.AreSafe, Hops.{forward_hop, backward_hop, hops}, declared.group_timing.GroupTiming.GroupTiming}
-use Rattle.cl_tight.specs.{TightAnswers.tight_answers_of, TightTimings.tight_timing, TightFindings.tight_chain_answer_of}
+use Rattle.cl_bound.specs.{Answers.{answers_of, answer_at, is_late}, Bounds.settled_timings}
 use Rattle.cl_phase.specs.{TightBounds.span_of, Walked.walked_of}
 use Rattle.cl_analyse.specs.{declared.findings.ChainAnswer.TheVariants.Bounds, ChainAnswers.chain_answer_of}
+use Rattle.cl_tight.specs.{TightAnswers.tight_answers_of, TightTimings.tight_timing, TightFindings.tight_chain_answer_of}
 use Rattle.cl_explain.specs.{Accepted.accepted_text, Explanation.explanation, Parts.{time_above, time_over}}
 
 -- the sum of the parts of a task over a window

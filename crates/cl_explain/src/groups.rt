@@ -6,7 +6,8 @@ ghost use Rattle.cl_bound.specs.Answers.{answers_of, NoneIsLate};
 ghost use Rattle.cl_explain.specs.Explanation.{task_of_group, timing_of_group, hop_word, hop_words, hop_head, group_words, group_line, hop_line, group_lines};
 
 use crate::numbers::put_signed;
-use cl_bound::{GroupTiming, TaskAnswer, timing_of};
+use cl_bound::{TaskAnswer, timing_of};
+use cl_hop::GroupTiming;
 use cl_model::{List, ValidModel};
 use cl_report::{put_chain_name, put_task_name};
 use cl_text::Text;

@@ -2,8 +2,9 @@
 ghost use Rattle.std.specs.Prelude.{◌≡◌, ℕ, ◌<◌, List, ◌∷◌, length};
 ghost use Rattle.cl_model.specs.{declared.model.SystemModel.SystemModel, ByNumber.chain_at, Groups.groups_at, Validity.IsValid};
 ghost use Rattle.cl_runs.specs.{SystemOf.system_of, TaskTiming.timing_at};
+ghost use Rattle.cl_hop.specs.{declared.group_timing.GroupTiming.GroupTiming, Bounds.Lengths};
 ghost use Rattle.cl_resp.specs.{Question.question_of, Response.Response};
-ghost use Rattle.cl_bound.specs.{declared.{answer.TaskAnswer.TheVariants.{Settled, Late}, group_timing.GroupTiming.GroupTiming}, Answers.{answers_of, answer_at}, Bounds.{Lengths, settled_timings}};
+ghost use Rattle.cl_bound.specs.{declared.answer.TaskAnswer.TheVariants.{Settled, Late}, Answers.{answers_of, answer_at}, Bounds.settled_timings};
 ghost use Rattle.cl_analyse.specs.{declared.findings.ChainAnswer.TheVariants.Bounds, ChainAnswers.chain_answer_of};
 ghost use Rattle.cl_tight.specs.TightFindings.{tight_chain_answer_of};
 ghost use Rattle.cl_explain.specs.{Accepted.accepted_text, Explanation.explanation, Parts.time_over, Promises.{AddUpToResponse, AddUpPastDeadline, AddUpToBounds, ShowsItsWalk, IsSafeExplanation, IsSafeAcceptance}};

@@ -3,16 +3,18 @@
 ghost use Rattle.std.specs.Prelude.{◌≡◌, ◌+◌, ◌<◌, ◌≤◌, ◌++◌, length, map, All, OnOk};
 ghost use Rattle.cl_model.specs.{ByNumber.chain_at, declared.limits.TheConstants.MOST_STEPS, Groups.groups_at, Validity.IsValid};
 ghost use Rattle.cl_runs.specs.SystemOf.{system_of};
-ghost use Rattle.cl_bound.specs.{Answers.NoneIsLate, Hops.IsNear};
-ghost use Rattle.cl_tight.specs.{TightAnswers.tight_answers_of, TightTimings.tight_timing, TightFindings.tight_chain_answer_of, Found.AreWindowsOf};
+ghost use Rattle.cl_hop.specs.Hops.{IsNear};
+ghost use Rattle.cl_bound.specs.Answers.{NoneIsLate};
 ghost use Rattle.cl_phase.specs.TightBounds.{tight_bounds};
 ghost use Rattle.cl_analyse.specs.declared.findings.ChainAnswer.TheVariants as answers;
+ghost use Rattle.cl_tight.specs.{TightAnswers.tight_answers_of, TightTimings.tight_timing, TightFindings.tight_chain_answer_of, Found.AreWindowsOf};
 ghost use Rattle.cl_explain.specs.Explanation.{arrival_words, arrival_line, arrival_lines, walk_lines, tight_line, tight_lines};
 
 use crate::groups::put_task_of_group;
 use crate::numbers::put_signed;
 use cl_analyse::first_late;
-use cl_bound::{Bounds, GroupTiming, TaskAnswer};
+use cl_bound::TaskAnswer;
+use cl_hop::{Bounds, GroupTiming};
 use cl_model::{List, ValidModel};
 use cl_phase::{tight_bounds, walk_lasting};
 use cl_report::{put_bounds, put_chain_name};

@@ -8,7 +8,8 @@ use Rattle.std.proofs.lemmas.List.Elements.{All-head, All-tail}
 use Rattle.cl_model.specs.{declared.{model.SystemModel.SystemModel, group.Group.Group}, ByNumber.chain_at, Groups.{no_group, group_at, steps_of, groups_at}, Kinds.is_timed, Validity.IsValid}
 use Rattle.cl_runs.specs.{SystemOf.system_of, TaskTiming.{Timing, timing_at}}
 use Rattle.cl_comm.specs.Windows.{spot_at}
-use Rattle.cl_bound.specs.{declared.answer.TaskAnswer.TaskAnswer, Answers.{answers_of, answer_at, is_late, response_in}, Bounds.{Lengths, settled_timing, bounds_of}, Hops.{group_timing, saves}}
+use Rattle.cl_hop.specs.{Bounds.Lengths, Hops.{group_timing, saves}}
+use Rattle.cl_bound.specs.{declared.answer.TaskAnswer.TaskAnswer, Answers.{answers_of, answer_at, is_late, response_in}, Bounds.{settled_timing, bounds_of}}
 use Rattle.cl_analyse.specs.{declared.findings.{ChainAnswer.TheVariants.Late, ExactAnswer.ExactAnswer}, ChainAnswers.{first_late, chain_answer, chain_answer_of, IsExactAnswer}}
 use Rattle.cl_analyse.proofs.FirstLate.{first_late_group, first_late_of_groups}
 use Rattle.cl_incr.specs.{declared.{question.{GroupQuestion.GroupQuestion, HopLine.TheVariants.{SameTask, Saving, Plain}}, shift.Shift.{Shift, TheVariants.{Stays, At}}, chains.ChainFindings.ChainFindings}, Questions.{ChainQuestion, group_question, hop_line, hop_lines, question_of_groups}}

@@ -2,8 +2,8 @@
 use Rattle.std.proofs.Common.{◌≡◌, ℕ, suc, ◌<◌, ◌⊎◌, inl, inr, Bool, true, false, cond, ◌&&◌, ◌==◌, nat_lt, List, [], ◌∷◌, length, get_or, refl, sym, ap, ◌∙◌, arith}
 use Rattle.std.specs.Prelude.{filter, map, nat_le}
 use Rattle.cl_model.specs.{Timing.greatest_jitter, Holds.greatest_by}
-use Rattle.cl_runs.specs.{TaskTiming.{Timing, System}, Priorities.is_above}
-use Rattle.cl_resp.specs.Question.{greatest_execution, longest_hold, block_of, taken_by, question_of}
+use Rattle.cl_runs.specs.{TaskTiming.{Timing, System}, Priorities.is_above, ExecutionTimes.greatest_execution}
+use Rattle.cl_resp.specs.Question.{longest_hold, block_of, taken_by, question_of}
 
 -- ---- what passes two tests
 

@@ -5,7 +5,7 @@ use Rattle.std.proofs.lemmas.List.{length-set, get_or-set_same, get_or-set_other
 use Rattle.cl_model.specs.declared.{chain.{LengthKind.TheVariants.{Reaction, Age, Reduced}, RequirementDef.RequirementDef, RequirementKind.{RequirementKind, TheVariants.{Length, Delay}}}, model.SystemModel.SystemModel}
 use Rattle.cl_model.proofs.ListFacts.{both_pass, both_true}
 use Rattle.cl_runs.specs.Requirements.{requirement_at, required_chain}
-use Rattle.cl_bound.specs.Bounds.{Lengths}
+use Rattle.cl_hop.specs.Bounds.{Lengths}
 use Rattle.cl_analyse.specs.{declared.findings.Verdict.Verdict, Verdicts.{limited_bound, verdict_at, is_met}}
 use Rattle.cl_margin.specs.{declared.allowed.Allowed.Allowed, Inner.Allowing.{any_allowed, with_most, allows, allowed_at, AreAllowed}}
 

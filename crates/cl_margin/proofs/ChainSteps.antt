@@ -5,7 +5,8 @@ use Rattle.std.proofs.lemmas.List.{get_or-map, map_more, take_all}
 use Rattle.std.proofs.lemmas.List.Elements.{All-append, All-cons, All-nil}
 use Rattle.cl_model.specs.{declared.{group.Group.Group, model.SystemModel.SystemModel}, ByNumber.{no_chain, chain_at}, Groups.{no_group, groups_at}}
 use Rattle.cl_runs.specs.SystemOf.{system_of}
-use Rattle.cl_bound.specs.{declared.{answer.TaskAnswer.TaskAnswer, group_timing.GroupTiming.GroupTiming}, Answers.{answer_at, is_late, NoneIsLate}, Bounds.Lengths, Hops.IsNear}
+use Rattle.cl_hop.specs.{declared.group_timing.GroupTiming.GroupTiming, Bounds.Lengths, Hops.IsNear}
+use Rattle.cl_bound.specs.{declared.answer.TaskAnswer.TaskAnswer, Answers.{answer_at, is_late, NoneIsLate}}
 use Rattle.cl_phase.specs.TightBounds.{tight_bounds}
 use Rattle.cl_analyse.specs.{declared.findings.ChainAnswer.TheVariants.{Bounds, Late}, ChainAnswers.chain_answer_at}
 use Rattle.cl_analyse.proofs.FirstLate.{none_late, late_found, timely_more, timely_all}

@@ -8,7 +8,7 @@ use Rattle.std.proofs.lemmas.List.Elements.{All-map}
 use Rattle.std.proofs.lemmas.List.FromFn.{length-range_with_len, get_or-range_with_len}
 use Rattle.std.proofs.lemmas.List.Sums.{AllPass-from_list_all, list_all-from_AllPass}
 use Rattle.cl_model.specs.{declared.{limits.TheConstants.MOST_TICKS, model.SystemModel.SystemModel, task.{RunnableDef.RunnableDef, TaskDef.TaskDef}}, ByNumber.{no_task, task_at}, Ranges.{IsRunnableInRange, IsTaskInRange, IsInRange}}
-use Rattle.cl_tune.specs.Scaled.{scaled_runnable, scaled_task}
+use Rattle.cl_scale.specs.Scaled.{scaled_runnable, scaled_task}
 use Rattle.cl_margin.specs.{declared.whose.Whose.{Whose, TheVariants.{EveryTask, OneTask}}, Grown.{percent_of, grown_greatest, grown_task, grown_by, grown}, Inner.Touched.are_times_within}
 use Rattle.cl_margin.proofs.{GrownTimes.{time_rises, percent_rises}, GrownValid.{count_grown, task_grown}}
 

@@ -10,8 +10,8 @@ use Rattle.cl_runs.specs.{SystemOf.{range_of, timing_of, system_of}, TaskTiming.
 use Rattle.cl_runs.proofs.ModelSystem.{count_is, timing_is}
 use Rattle.cl_lead.specs.LeastTimes.{least_of_each, HaveSameLeastTimes}
 use Rattle.cl_tight.specs.LongerTimes.{DifferInGreatestTimes}
-use Rattle.cl_tune.specs.Scaled.{scaled_runnable, scaled_task}
-use Rattle.cl_tune.proofs.BareChains.{groups_alike}
+use Rattle.cl_scale.specs.Scaled.{scaled_runnable, scaled_task}
+use Rattle.cl_scale.proofs.BareChains.{groups_alike}
 use Rattle.cl_margin.specs.{declared.whose.Whose.Whose, Grown.{percent_of, grown_task, grown_by, grown}}
 use Rattle.cl_margin.proofs.GrownValid.{count_grown, task_grown, grown_alike}
 

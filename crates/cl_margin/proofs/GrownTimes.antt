@@ -12,11 +12,11 @@ use Rattle.std.proofs.lemmas.Nat.{le-div}
 use Rattle.std.proofs.Math.Nat.{mul-le-mul_left, div-mul-le_self}
 use Rattle.cl_model.specs.{declared.{group.Group.Group, model.SystemModel.SystemModel, task.{RunnableDef.RunnableDef, TaskDef.TaskDef}}, ByNumber.task_at, Holds.greatest_by}
 use Rattle.cl_model.proofs.Greatest.{greatest_mapped, greatest_within, greatest_least}
-use Rattle.cl_runs.specs.{Priorities.{is_above, is_below}, SystemOf.{range_of, timing_of, system_of}, TaskTiming.{TimeRange, Timing, System, timing_at, no_timing}}
-use Rattle.cl_resp.specs.{Clear.greatest_through, LesserTimes.TakesNoMore, Question.{greatest_execution, hold_of, longest_hold, lower_block_of}}
+use Rattle.cl_runs.specs.{Priorities.{is_above, is_below}, SystemOf.{range_of, timing_of, system_of}, TaskTiming.{TimeRange, Timing, System, timing_at, no_timing}, ExecutionTimes.greatest_execution}
+use Rattle.cl_resp.specs.{Clear.greatest_through, LesserTimes.TakesNoMore, Question.{hold_of, longest_hold, lower_block_of}}
 use Rattle.cl_resp.proofs.Filters.{filter-map}
 use Rattle.cl_tight.specs.LongerTimes.{IsNoLonger}
-use Rattle.cl_tune.specs.Scaled.{scaled_time, scaled_runnable, scaled_task}
+use Rattle.cl_scale.specs.Scaled.{scaled_time, scaled_runnable, scaled_task}
 use Rattle.cl_margin.specs.{declared.whose.Whose.{Whose, TheVariants.{EveryTask, OneTask}}, Grown.{percent_of, grown_greatest, grown}}
 use Rattle.cl_margin.proofs.GrownSystem.{grown_timing, system_count, timing_grown, timings_grown, systems_alike}
 

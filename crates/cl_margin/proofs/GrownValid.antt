@@ -10,8 +10,8 @@ use Rattle.std.proofs.lemmas.Simd.{map-map}
 use Rattle.cl_model.specs.{declared.{model.SystemModel.SystemModel, task.{RunnableDef.RunnableDef, TaskDef.TaskDef}}, ByNumber.{no_task, task_at}, Ranges.IsInRange, Validity.IsValid}
 use Rattle.cl_model.proofs.{ListFacts.maps_agree, ValidTasks.times_ordered}
 use Rattle.cl_resp.proofs.Filters.{by_number}
-use Rattle.cl_tune.specs.Scaled.{scaled_time, scaled_runnable, scaled_task}
-use Rattle.cl_tune.proofs.{BareModels.{bare_task, bare_model, IsOrdered, AreOrdered, valid_but_times}, ScaledValid.{scaled_ordered, scaled_bare}}
+use Rattle.cl_scale.specs.Scaled.{scaled_time, scaled_runnable, scaled_task}
+use Rattle.cl_scale.proofs.{BareModels.{bare_task, bare_model, IsOrdered, AreOrdered, valid_but_times}, ScaledValid.{scaled_ordered, scaled_bare}}
 use Rattle.cl_margin.specs.{declared.whose.Whose.{Whose, TheVariants.{EveryTask, OneTask}}, Grown.{percent_of, grown_task, grown_by, grown}}
 
 -- ---- a task at 100 percent

@@ -9,7 +9,8 @@ use Rattle.std.proofs.lemmas.List.FromFn.{length-map-range_with_len}
 use Rattle.cl_model.specs.declared.{chain.{RequirementDef.RequirementDef, RequirementKind.RequirementKind}, model.SystemModel.SystemModel}
 use Rattle.cl_runs.specs.{Requirements.{no_requirement, requirement_at, required_chain}, SystemOf.system_of}
 use Rattle.cl_runs.proofs.ModelSystem.{count_is}
-use Rattle.cl_bound.specs.{Answers.{answer_at, is_late}, Bounds.Lengths}
+use Rattle.cl_hop.specs.Bounds.{Lengths}
+use Rattle.cl_bound.specs.Answers.{answer_at, is_late}
 use Rattle.cl_analyse.specs.{declared.findings.{ChainAnswer.{ChainAnswer, TheVariants.{Bounds, Late}}, Verdict.TheVariants.{Met, Broken, Unshown}}, ChainAnswers.chain_answer_at, Verdicts.{limited_bound, required_bound, verdict_on, is_met}}
 use Rattle.cl_tight.specs.{TightAnswers.{tight_answer_to, tight_answers_of}, TightFindings.{tight_chain_answer_of, tight_chain_answers_of, has_exact_bounds, exact_bound, tight_verdict_of, tight_findings_of}}
 use Rattle.cl_margin.specs.Margins.{is_met_task, is_met_requirement}

@@ -5,7 +5,7 @@ use Rattle.std.specs.List.{list_all}
 use Rattle.std.proofs.lemmas.Bool.{true≢false, false≢true, cases_eq, cases_order}
 use Rattle.cl_model.specs.{declared.model.SystemModel.SystemModel, ByNumber.task_at, Ranges.IsInRange, Validity.IsValid}
 use Rattle.cl_tight.specs.TightFindings.{tight_findings_of}
-use Rattle.cl_tune.specs.declared.percent.TheConstants.{MOST_PERCENT}
+use Rattle.cl_scale.specs.declared.percent.TheConstants.{MOST_PERCENT}
 use Rattle.cl_margin.specs.{declared.{answer.{Breaks.{Breaks, TheVariants.{Task, Requirement, Limit}}, Margin.Margin}, whose.Whose.{Whose, TheVariants.{EveryTask, OneTask}}}, Grown.grown, Margins.{is_met_task, is_met_requirement, KeepsMet, IsFirstLost, IsFirstLate, IsFirstUnmet}}
 use Rattle.cl_margin.specs.{Margins.{BreaksFirst, IsGreatestPercent, BreaksAfter, IsMargin}, Inner.Touched.{IsOfModel, are_times_within}}
 use Rattle.cl_margin.proofs.{GrownRange.{every_in_range, every_passes, one_in_range, one_passes}, GrownValid.grown_same}

@@ -5,8 +5,8 @@ use Rattle.std.specs.Option.{option_map}
 use Rattle.std.proofs.lemmas.List.{get_or_past}
 use Rattle.std.proofs.lemmas.Option.{same_Some}
 use Rattle.cl_model.specs.Timing.{greatest_jitter}
-use Rattle.cl_runs.specs.TaskTiming.{System, Timing, timing_at, no_timing, IsSound}
-use Rattle.cl_resp.specs.{Asked.least_response, ByPhase.{asked_by_phase, response_by_phase, response_through}, Clear.greatest_through, LesserTimes.TakesNoMore, Question.greatest_execution, Response.Response}
+use Rattle.cl_runs.specs.{TaskTiming.{System, Timing, timing_at, no_timing, IsSound}, ExecutionTimes.greatest_execution}
+use Rattle.cl_resp.specs.{Asked.least_response, ByPhase.{asked_by_phase, response_by_phase, response_through}, Clear.greatest_through, LesserTimes.TakesNoMore, Response.Response}
 use Rattle.cl_resp.proofs.AskedLess.{settled_sooner, late_stays_late, through_sooner}
 use Rattle.cl_bound.specs.Answers.{answer_with, answer_at}
 use Rattle.cl_tight.specs.{TightAnswers.tight_answers_of, TightTimings.part_response}

@@ -7,8 +7,9 @@ use Rattle.std.proofs.lemmas.List.Folds.{list_any_at}
 use Rattle.cl_model.specs.{declared.{group.Group.Group, model.SystemModel.SystemModel}, Groups.groups_at, Ranges.IsInRange, Validity.IsValid}
 use Rattle.cl_model.proofs.GroupFacts.{groups_at_are}
 use Rattle.cl_runs.specs.{Requirements.{requirement_at, required_chain}, SystemOf.system_of}
+use Rattle.cl_hop.specs.Bounds.{Lengths}
 use Rattle.cl_resp.specs.LesserTimes.{TakesNoMore}
-use Rattle.cl_bound.specs.{Answers.{answer_at, is_late}, Bounds.Lengths}
+use Rattle.cl_bound.specs.Answers.{answer_at, is_late}
 use Rattle.cl_analyse.specs.{declared.findings.ChainAnswer.TheVariants.Bounds, ChainAnswers.chain_answer_at, Verdicts.limited_bound}
 use Rattle.cl_tight.specs.{LongerTimes.IsNoLonger, TightFindings.{tight_chain_answers_of, tight_findings_of}}
 use Rattle.cl_tight.proofs.LongerFindings.{met_bounds, bounds_meet, tasks_stay, requirements_stay}

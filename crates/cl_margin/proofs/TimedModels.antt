@@ -12,8 +12,8 @@ use Rattle.cl_model.specs.{declared.{limits.TheConstants.MOST_TICKS, model.Syste
 use Rattle.cl_model.specs.Validity.{IsValid}
 use Rattle.cl_model.proofs.ListFacts.{maps_agree}
 use Rattle.cl_resp.proofs.Filters.{by_number}
-use Rattle.cl_tune.specs.Scaled.{scaled_runnable}
-use Rattle.cl_tune.proofs.BareModels.{bare_runnable, bare_task, bare_model, IsOrdered, AreOrdered, valid_but_times}
+use Rattle.cl_scale.specs.Scaled.{scaled_runnable}
+use Rattle.cl_scale.proofs.BareModels.{bare_runnable, bare_task, bare_model, IsOrdered, AreOrdered, valid_but_times}
 use Rattle.cl_margin.specs.Grown.{grown_greatest, grown_task, grown_by}
 
 -- ---- lists by number

@@ -2,7 +2,7 @@
 use Rattle.std.specs.Prelude.{ℕ, ◌==◌, if◌then◌else◌, length, map, sum_by}
 use Rattle.std.specs.List.{range_with_len}
 use Rattle.cl_model.specs.{declared.{model.SystemModel.SystemModel, task.{RunnableDef.RunnableDef, TaskDef.TaskDef}}, ByNumber.task_at}
-use Rattle.cl_tune.specs.Scaled.{scaled_time, scaled_task}
+use Rattle.cl_scale.specs.Scaled.{scaled_time, scaled_task}
 use Rattle.cl_margin.specs.declared.whose.Whose.{Whose, TheVariants.{EveryTask, OneTask}}
 
 -- the percentage of the greatest times of a task, where those of some tasks are at this one: those of all others are at

@@ -6,7 +6,7 @@ ghost use Rattle.cl_analyse.specs.Verdicts.{is_met};
 ghost use Rattle.cl_margin.specs.Inner.Allowing.{any_allowed, most_bounds, with_most, allows, allowed_at, AreAllowed};
 
 use cl_analyse::Verdict;
-use cl_bound::Bounds;
+use cl_hop::Bounds;
 use cl_model::{LengthKind, List, RequirementDef, RequirementKind, ValidModel};
 use cl_time::NoMemory;
 use std::alloc::Global;

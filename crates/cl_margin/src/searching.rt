@@ -11,8 +11,8 @@ use crate::standing::Standing;
 use crate::trial::Trial;
 use crate::whose::Whose;
 use cl_analyse::ChainAnswer;
+use cl_scale::MOST_PERCENT;
 use cl_time::{NoMemory, Steps};
-use cl_tune::MOST_PERCENT;
 use std::alloc::Global;
 use std::sync::ledger::Ledger;
 

@@ -6,15 +6,16 @@ ghost use Rattle.cl_resp.specs.{Question.tight_question_of, Response.busy_window
 ghost use Rattle.cl_bound.specs.Answers.{answer_at, is_late};
 ghost use Rattle.cl_analyse.specs.ChainAnswers.{chain_answer_at};
 ghost use Rattle.cl_tight.specs.{TightAnswers.tight_answers_of, TightFindings.tight_chain_answers_of};
+ghost use Rattle.cl_scale.specs.declared.percent.TheConstants.{MOST_PERCENT};
 ghost use Rattle.cl_margin.specs.{Grown.{grown_by, grown}, Inner.{Touched.IsOfModel, Trials.{AreCyclesOf, IsTrialOf, IsTrialAt, with_percent, IsStanding, with_answer, Forgets, is_touched_task, IsTimingAt}}, declared.whose.Whose.TheVariants.{EveryTask, OneTask}};
-ghost use Rattle.cl_tune.specs.declared.percent.TheConstants.{MOST_PERCENT};
 
 use crate::standing::Standing;
 use crate::whose::{Whose, grown_greatest};
 use arrayvec::ArrayVec;
 use cl_analyse::ChainAnswer;
-use cl_bound::{GroupTiming, TaskAnswer};
+use cl_bound::TaskAnswer;
 use cl_cycle::Cycle;
+use cl_hop::GroupTiming;
 use cl_model::{Group, List, MOST_STEPS, Step, ValidModel};
 use cl_phase::tight_bounds;
 use cl_resp::{respond_in_cycle, widest_window};

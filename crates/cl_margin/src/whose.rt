@@ -5,7 +5,7 @@ ghost use Rattle.cl_model.specs.{Ranges.{IsRunnableInRange, IsTaskInRange, IsInR
 ghost use Rattle.cl_margin.specs.{Grown.{grown, grown_greatest, grown_time}, Inner.Touched.{has_whole, reaches, touches, touches_chain, IsOfModel, are_times_within, IsMostInRange}};
 
 use cl_model::{MOST_TICKS, RunnableDef, TaskDef, ValidModel};
-use cl_tune::{MOST_PERCENT, scaled_time};
+use cl_scale::{MOST_PERCENT, scaled_time};
 
 /// Whose greatest execution times grow.
 #[derive(Clone, Copy, Debug, PartialEq, Eq)]

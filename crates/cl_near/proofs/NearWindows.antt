@@ -10,15 +10,15 @@ use Rattle.std.proofs.lemmas.List.Folds.{Any-from_list_any}
 use Rattle.std.proofs.lemmas.List.FromFn.{get_or-range_with_len, length-range_with_len}
 use Rattle.cl_model.specs.{declared.{limits.TheConstants.MOST_TICKS, model.SystemModel.SystemModel, stimulus.StimulusKind.{StimulusKind, TheVariants.{Periodic, Sporadic, Burst}}}, Ranges.IsKindInRange, Timing.greatest_jitter, Validity.IsValid}
 use Rattle.cl_model.proofs.ValidTasks.{kind_in_range}
-use Rattle.cl_runs.specs.{Priorities.{is_above, tasks_above}, SystemOf.system_of, TaskTiming.{Timing, timing_at}}
+use Rattle.cl_runs.specs.{Priorities.{is_above, tasks_above}, SystemOf.system_of, TaskTiming.{Timing, timing_at}, ExecutionTimes.greatest_execution}
 use Rattle.cl_runs.proofs.ModelSystem.{timing_is, count_is, system_sound}
 use Rattle.cl_stim.specs.{declared.phase.Phase.Phase, Integers.IsIntegerWithin, Phase.{IsPhase, last_arrival, phase_of, arrives_at}}
 use Rattle.cl_stim.proofs.PhaseSteps.{last_within}
 use Rattle.cl_cycle.specs.{declared.cycle.TheConstants.MOST_IN_CYCLE, Counts.arrivals_of, Cycles.{is_one_of, in_phase_above, cycle_of}}
 use Rattle.cl_cycle.proofs.CycleLengths.{cycle_short}
-use Rattle.cl_phase.specs.Whole.{LATEST_STEADY, IsLeastTurns}
-use Rattle.cl_resp.specs.{declared.worst.WorstWindow.WorstWindow, Asked.Asked, ByPhase.asked_by_phase, Question.greatest_execution, Worst.{within_of, lies_in, is_released_in, PassesOrZero, IsCandidate, IsFirstUnanswered, IsLeastUnanswered, IsWorstBy, IsWorstWindowOf}}
+use Rattle.cl_resp.specs.{declared.worst.WorstWindow.WorstWindow, Asked.Asked, ByPhase.asked_by_phase, Worst.{within_of, lies_in, is_released_in, PassesOrZero, IsCandidate, IsFirstUnanswered, IsLeastUnanswered, IsWorstBy, IsWorstWindowOf}}
 use Rattle.cl_resp.proofs.{LeastRound.asked_comes_round, WorstCandidates.{not_below, lies_before, both}, WorstPlaces.held}
+use Rattle.cl_phase.specs.Whole.{LATEST_STEADY, IsLeastTurns}
 use Rattle.cl_near.specs.Plans.{IsWindowOfRun}
 
 -- ---- the numbers of a stimulus

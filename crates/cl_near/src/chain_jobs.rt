@@ -4,7 +4,7 @@ ghost use Rattle.cl_model.specs.Groups.{IsGroupOf};
 
 use crate::accesses::{Access, AccessOfCore, Accesses};
 use crate::moments::{Moments, tick_of};
-use cl_bound::GroupTiming;
+use cl_hop::GroupTiming;
 use cl_model::{Group, RequirementKind, ValidModel};
 use cl_phase::WholeWalk;
 use cl_time::NoMemory;

@@ -1,13 +1,13 @@
 //! What a run of a chain is to be so that it comes near to a bound. Times are in ticks.
 ghost use Rattle.std.specs.Prelude.{◌≡◌, ◌<◌, ◌≤◌, length, All, IfOk};
-ghost use Rattle.cl_bound.specs.Hops.{IsNear};
 ghost use Rattle.cl_model.specs.{declared.limits.TheConstants.MOST_STEPS, Groups.IsGroupOf};
+ghost use Rattle.cl_hop.specs.Hops.{IsNear};
 ghost use Rattle.cl_near.specs.Plans.{IsPlanOfGroups};
 
 use crate::chain_jobs::ChainJobs;
 use crate::cores::cores_of;
 use crate::moments::tick_of;
-use cl_bound::GroupTiming;
+use cl_hop::GroupTiming;
 use cl_model::{Group, List, RequirementKind, ValidModel};
 use cl_phase::whole_walk;
 use cl_time::NoMemory;

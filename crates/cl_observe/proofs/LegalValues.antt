@@ -9,12 +9,13 @@ use Rattle.cl_model.specs.Validity.{IsValid}
 use Rattle.cl_runs.specs.{TaskTiming.{TimeRange, Timing, timing_at, no_range, range_at}, SystemOf.{system_of, range_of}, Table.{job_at, no_job, LiesIn}, Run.{Run, jobs_of}, Legal.IsLegal, Chains.{JobChain, chain_length, first_job, last_job, IsForwardChain, IsAgeChain, IsReducedChain}}
 use Rattle.cl_runs.specs.{RunChains.run_moments, Delays.IsDelayChain, Measured.IsMeasuredBy}
 use Rattle.cl_runs.proofs.{ModelSystem.{timing_is, count_is, ranges_are, range_count_is, system_sound}, RunArrivals.{released_late, released_within}, StartsFinishes.finishes_once, ZippedLists.zip_at}
+use Rattle.cl_chain.specs.GreatestDelays.{IsGreatestDelayBy}
+use Rattle.cl_hop.specs.{Promises.AreAtLeast, Bounds.Lengths}
 use Rattle.cl_resp.specs.Response.{Response}
-use Rattle.cl_bound.specs.{declared.answer.TaskAnswer.TaskAnswer, Answers.answer_at, Promises.AreAtLeast, Bounds.Lengths}
+use Rattle.cl_bound.specs.{declared.answer.TaskAnswer.TaskAnswer, Answers.answer_at}
 use Rattle.cl_bound.specs.declared.answer.TaskAnswer.TheVariants as task_answer
 use Rattle.cl_analyse.specs.{declared.findings.ChainAnswer.ChainAnswer, ChainAnswers.chain_answer_at, Verdicts.limited_bound}
 use Rattle.cl_analyse.specs.declared.findings.ChainAnswer.TheVariants as chain_answer
-use Rattle.cl_chain.specs.GreatestDelays.{IsGreatestDelayBy}
 use Rattle.cl_tight.specs.TightFindings.{tight_findings_of}
 use Rattle.cl_tight.proofs.TightLaws.{tight_findings_safe}
 use Rattle.cl_observe.specs.{declared.values.{GreatestResponse.GreatestResponse, Spread.Spread}, Values.{IsGreatestResponseOf, IsSpreadOf}, Shown.{HasResponseIn, HasJitterIn, HasTimeIn}, Observed.{response_number, response_bound}, Within.{IsNotAbove, AreInside, IsTaskWithin}}

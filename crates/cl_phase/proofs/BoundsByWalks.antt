@@ -2,7 +2,7 @@
 use Rattle.std.proofs.Common.{◌≡◌, ℕ, List, refl, ap, ◌∙◌}
 use Rattle.cl_model.specs.declared.group.Group.{Group}
 use Rattle.cl_runs.specs.TaskTiming.{System}
-use Rattle.cl_bound.specs.declared.group_timing.GroupTiming.{GroupTiming}
+use Rattle.cl_hop.specs.declared.group_timing.GroupTiming.{GroupTiming}
 use Rattle.cl_phase.specs.{declared.{stop.Stop.Stop, walk.{Ends.Ends, Longest.Longest}}, Walks.pace_at, TightBounds.{hyperperiod_in, starts, bounds_from, slowest, stops_of, span_of, last_write, tight_bounds}, Inner.Longest.{span_between, longest_walk, bounds_by}}
 
 bounds_from_place : (stops : List Stop) (ends : Ends) (place : ℕ)

@@ -5,8 +5,8 @@ use Rattle.std.specs.Prelude.{All}
 use Rattle.cl_model.specs.{declared.{chain.LengthKind.{LengthKind, TheVariants.{Reaction, Age, Reduced}}, group.Group.Group}, Groups.{no_group, group_at}}
 use Rattle.cl_runs.specs.{TaskTiming.{System, IsSound}, Run.Run, Legal.IsLegal, RunChains.run_moments}
 use Rattle.cl_runs.proofs.{ChainsOrdered.{forward_ordered, age_ordered, reduced_ordered}, Extension.some_legal, OrderedMoments.run_in_order}
-use Rattle.cl_bound.specs.{Timings.AlwaysKeeps, declared.group_timing.GroupTiming.GroupTiming}
-use Rattle.cl_bound.proofs.ChainBounds.{AreAlwaysKept}
+use Rattle.cl_hop.specs.{Timings.AlwaysKeeps, declared.group_timing.GroupTiming.GroupTiming}
+use Rattle.cl_hop.proofs.ChainBounds.{AreAlwaysKept}
 use Rattle.cl_phase.specs.CompleteChains.{HasChainOfKind, HasCompleteChains}
 use Rattle.cl_phase.proofs.{JobsInTime.AllKeepUp, ForwardExists.{forward_ticks, has_forward_chain}, BackwardExists.{backward_ticks, has_age_chain, has_reduced_chain}, KeptInTime.{latest_write, keeps_up, kept_read_first}}
 

@@ -9,11 +9,11 @@ use Rattle.std.proofs.Math.Seq.{get_or-append_seam}
 use Rattle.cl_model.specs.{declared.{limits.TheConstants.{MOST_TICKS, MOST_STEPS}, group.Group.Group, stimulus.StimulusKind.StimulusKind}, Groups.{no_group, group_at}, Timing.greatest_distance}
 use Rattle.cl_runs.specs.TaskTiming.{System, timing_at}
 use Rattle.cl_stim.specs.{declared.phase.Phase.Phase, Integers.IsIntegerWithin, Phase.phase_of}
-use Rattle.cl_bound.specs.{declared.group_timing.GroupTiming.GroupTiming, Bounds.last_of}
+use Rattle.cl_stim.proofs.Hyperperiods.{HasPeriod, hyperperiod_positive}
+use Rattle.cl_hop.specs.{declared.group_timing.GroupTiming.GroupTiming, Bounds.last_of}
 use Rattle.cl_phase.specs.{declared.{pace.Pace.Pace, stop.Stop.Stop, keeping.Keeping.Keeping}, Kept.{phase_beside, kept_with, pace_with}, Walks.no_stop, TightBounds.{lag_to_next, stops_beside, stops_of, span_of, last_write}, Inner.{Ranges.{IsPaceInRange, AreStopsInRange}, Keeping.AreKept}}
 use Rattle.cl_phase.specs.Inner.{Keeping.{AreKeptIn, IsBeside}, Course.first_lag}
 use Rattle.cl_phase.proofs.{SlowestGroups.pace_of, KeptAfter.{phase_in, kept_after, after_more, phase_of_pace, kept_in}}
-use Rattle.cl_stim.proofs.Hyperperiods.{HasPeriod, hyperperiod_positive}
 
 -- a group on its walks whose numbers are those of a valid model
 pub record IsStopInRange (stop : Stop) : Type 0 where

@@ -5,8 +5,8 @@ use Rattle.cl_model.specs.{declared.{chain.LengthKind.TheVariants.Reaction, grou
 use Rattle.cl_runs.specs.{TaskTiming.{System, IsSound}, Table.job_at, Run.{Run, jobs_of}, Legal.IsLegal, Chains.{Moments, JobChain, chain_length, first_group, last_group, first_job, IsForwardChain}, MomentOrder.{AreInOrder, HaveReadBeforeWriting}, RunChains.run_moments}
 use Rattle.cl_runs.specs.Delays.{IsDelayChain}
 use Rattle.cl_runs.proofs.OrderedMoments.{run_in_order}
-use Rattle.cl_bound.specs.{Timings.AlwaysKeeps, declared.group_timing.GroupTiming.GroupTiming}
-use Rattle.cl_bound.proofs.ChainBounds.{AreAlwaysKept}
+use Rattle.cl_hop.specs.{Timings.AlwaysKeeps, declared.group_timing.GroupTiming.GroupTiming}
+use Rattle.cl_hop.proofs.ChainBounds.{AreAlwaysKept}
 use Rattle.cl_phase.specs.TightBounds.{tight_bounds}
 use Rattle.cl_phase.proofs.{ChainsComplete.has_complete_chains, KeptInTime.kept_read_first, DelaySafety.delays_within}
 

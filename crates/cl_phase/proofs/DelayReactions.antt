@@ -6,7 +6,7 @@ use Rattle.std.proofs.lemmas.Int.{ints}
 use Rattle.cl_model.specs.{declared.{group.Group.Group, stimulus.StimulusKind.{StimulusKind, TheVariants.Periodic}}, Groups.no_group, Holds.greatest_by, Timing.{least_distance, greatest_distance}}
 use Rattle.cl_model.proofs.Greatest.{greatest_least, greatest_within}
 use Rattle.cl_runs.specs.{Pattern.IsPattern, TaskTiming.{System, timing_at, IsSound}, Chains.first_group}
-use Rattle.cl_bound.specs.{declared.group_timing.GroupTiming.GroupTiming, SettledChains.IsGroupOfTask, Timings.AlwaysKeeps}
+use Rattle.cl_hop.specs.{declared.group_timing.GroupTiming.GroupTiming, Timings.{IsGroupOfTask, AlwaysKeeps}}
 use Rattle.cl_phase.specs.{declared.stop.Stop.Stop, Pace.{first_from, last_by, previous, next}, Walks.{no_stop, pace_at, lag_at, onward, back, arrival_at_first}, TightBounds.{stops_beside, stops_of, hyperperiod_in, slowest, starts, ticks_or_none, span_of, last_write, length_from}}
 use Rattle.cl_phase.specs.{TightBounds.{delay_from, bounds_from, tight_bounds}, EarlyReads.ReadsBeforeNext}
 use Rattle.cl_phase.proofs.{Stepped.IsStepped, PatternPaces.{IsPaceOf, pace_step}, RunWalks.span_is, StopFacts.{stop_pace, stops_step}, WiderWalks.greatest_rises, DelaySteps.{next_near, next_far}, DelaySafety.last_write_is, DelayReads.timed_reads_at_once, DelayExists.delay_takes_time}

@@ -6,8 +6,8 @@ use Rattle.std.proofs.lemmas.List.Elements.{All-cons, All-nil}
 use Rattle.cl_model.specs.{declared.{chain.LengthKind.TheVariants.Reaction, group.Group.Group, task.AccessKind.{AccessKind, TheVariants.{Explicit, Implicit, Timed}}}, Kinds.is_timed}
 use Rattle.cl_runs.specs.{TaskTiming.{System, timing_at, IsSound}, Table.job_at, Run.{Run, jobs_of}, Moments.{ReadsBy, Reads, Writes}, Chains.first_job, RunChains.run_moments}
 use Rattle.cl_runs.proofs.MomentFacts.{has_read}
-use Rattle.cl_bound.specs.{declared.group_timing.GroupTiming.GroupTiming, Timings.AlwaysKeeps}
-use Rattle.cl_bound.proofs.LaterRuns.{writes_in_time}
+use Rattle.cl_hop.specs.{declared.group_timing.GroupTiming.GroupTiming, Timings.AlwaysKeeps}
+use Rattle.cl_hop.proofs.LaterRuns.{writes_in_time}
 use Rattle.cl_phase.specs.{CompleteChains.{HasChainOfKind, HasCompleteChains}, EarlyReads.ReadsBeforeNext}
 use Rattle.cl_phase.proofs.ChainsComplete.{has_complete_chains}
 

@@ -5,8 +5,8 @@ use Rattle.std.proofs.lemmas.Int.{ints}
 use Rattle.cl_model.specs.{declared.group.Group.Group, Groups.group_at}
 use Rattle.cl_runs.specs.{TaskTiming.{System, timing_at, IsSound}, Table.job_at, Run.{Run, jobs_of}, Legal.IsLegal, Chains.{JobChain, chain_length, last_group, last_job}, RunChains.run_moments, Delays.IsDelayChain}
 use Rattle.cl_stim.proofs.RunPhases.{run_arrives}
-use Rattle.cl_bound.specs.{declared.group_timing.GroupTiming.GroupTiming, SettledChains.IsGroupOfTask}
-use Rattle.cl_bound.proofs.{AlongChains.last_timing, LaterRuns.writes_in_time, LagBounds.forward_lag, ChainBounds.AreAlwaysKept}
+use Rattle.cl_hop.specs.{declared.group_timing.GroupTiming.GroupTiming, Timings.IsGroupOfTask}
+use Rattle.cl_hop.proofs.{AlongChains.last_timing, LaterRuns.writes_in_time, LagBounds.forward_lag, ChainBounds.AreAlwaysKept}
 use Rattle.cl_phase.specs.{declared.{pace.Pace.{Pace, TheVariants.{Kept, Free}}, stop.Stop.Stop}, Pace.{IsPace, previous, next, AreNeighbours}, Walks.{pace_at, lag_at, last_place, arrival_at_first}, TightBounds.{stops_of, slowest, delay_from, span_of, last_write, bounds_from}}
 use Rattle.cl_phase.specs.TightBounds.{tight_bounds}
 use Rattle.cl_phase.proofs.{Stepped.IsStepped, PatternPaces.IsPaceOf, Walking.{AreLinkedJobs, last_by_walk, first_from_walk}, WalkStarts.{AreStops, IsArrivalAt, after_arrives}, RunWalks.{arrival_in, lag_between, AreStopsOf, follows}, StopFacts.{stop_pace, stop_is_pace}}

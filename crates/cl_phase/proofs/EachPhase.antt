@@ -4,7 +4,7 @@ use Rattle.std.proofs.Common.{◌≡◌, ℕ, suc, ◌+◌, ◌-◌, ◌<◌, �
 use Rattle.std.specs.Prelude.{ℤ, pos, ◌≤ℤ◌}
 use Rattle.std.proofs.lemmas.Bool.{cases_lt}
 use Rattle.std.proofs.lemmas.Int.{ints}
-use Rattle.cl_bound.specs.Bounds.{Lengths}
+use Rattle.cl_hop.specs.Bounds.{Lengths}
 use Rattle.cl_phase.specs.{declared.stop.Stop.Stop, Walks.pace_at, TightBounds.{length_from, reduced_from, delay_from, bounds_from}}
 use Rattle.cl_phase.proofs.{Stepped.IsStepped, DelayPhases.{ahead_lasts, answer_lasts}, PhaseAnswers.{LeadsTo, ahead, ahead_arrives, ahead_longer, ahead_longer_reduced, answer, answer_arrives, answer_longer, answer_longer_reduced}}
 

@@ -5,8 +5,8 @@ use Rattle.std.proofs.Math.Nat.{mul-le-mul_right}
 use Rattle.cl_model.specs.{declared.{group.Group.Group, stimulus.StimulusKind.StimulusKind}, Groups.group_at, Timing.greatest_distance}
 use Rattle.cl_runs.specs.{declared.job.Job.Job, Pattern.first_greatest, Arrivals.FollowPattern, TaskTiming.{System, timing_at, IsSound}, Table.job_at, Run.{Run, jobs_of}, Legal.IsLegal, MomentOrder.HaveReadBeforeWriting, RunChains.run_moments}
 use Rattle.cl_runs.proofs.{MomentFacts.has_read, RunArrivals.{follow_pattern, arrivals_rise, next_within, next_due}}
-use Rattle.cl_bound.specs.{Timings.AlwaysKeeps, declared.group_timing.GroupTiming.GroupTiming}
-use Rattle.cl_bound.proofs.ChainBounds.{AreAlwaysKept}
+use Rattle.cl_hop.specs.{Timings.AlwaysKeeps, declared.group_timing.GroupTiming.GroupTiming}
+use Rattle.cl_hop.proofs.ChainBounds.{AreAlwaysKept}
 use Rattle.cl_phase.proofs.JobsInTime.{KeepsUp}
 
 -- ---- arrivals

@@ -6,7 +6,7 @@ use Rattle.cl_model.specs.{declared.group.Group.Group, Holds.greatest_by}
 use Rattle.cl_runs.specs.TaskTiming.{System, IsSound}
 use Rattle.cl_stim.specs.{declared.phase.Phase.Phase, Phase.{IsPhase, IsArrivalOf}}
 use Rattle.cl_stim.proofs.PhaseSteps.{first_arrives, first_after, first_before, last_arrives, last_before, last_after}
-use Rattle.cl_bound.specs.{declared.group_timing.GroupTiming.GroupTiming, SettledChains.IsGroupOfTask}
+use Rattle.cl_hop.specs.{declared.group_timing.GroupTiming.GroupTiming, Timings.IsGroupOfTask}
 use Rattle.cl_phase.specs.{declared.{pace.Pace.TheVariants.Kept, stop.Stop.Stop}, Pace.{IsPace, first_from, last_by}, Walks.pace_at, TightBounds.{stops_of, hyperperiod_in, slowest, starts, ticks_or_none, length_from, reduced_from, delay_from, bounds_from, span_of, last_write}}
 use Rattle.cl_phase.specs.TightBounds.{tight_bounds}
 use Rattle.cl_phase.proofs.{StartFacts.{start_within, start_reached}, SlowestFacts.{slowest_within, slowest_is_kept}, StopFacts.{length_stops, stop_is_pace, stops_step, stops_come_round, stops_hyperperiod}, WalkStarts.{AreStops, IsArrivalAt, length_bounded, reduced_bounded}}

@@ -5,8 +5,8 @@ use Rattle.std.proofs.lemmas.Bool.{cases_lt}
 use Rattle.cl_model.specs.{declared.group.Group.Group, Groups.group_at, Timing.greatest_distance}
 use Rattle.cl_runs.specs.{TaskTiming.{System, timing_at, IsSound}, Run.{Run, jobs_of}, Legal.IsLegal, Moments.Writes, GoesOn.GoesOn, Chains.{Moments, HasWritten, AreBackwardLinks, last_group}, RunChains.run_moments}
 use Rattle.cl_runs.proofs.Extension.{extension}
-use Rattle.cl_bound.specs.declared.group_timing.GroupTiming.{GroupTiming}
-use Rattle.cl_bound.proofs.{LaterRuns.{next_in_table, next_writes}, ChainBounds.AreAlwaysKept}
+use Rattle.cl_hop.specs.declared.group_timing.GroupTiming.{GroupTiming}
+use Rattle.cl_hop.proofs.{LaterRuns.{next_in_table, next_writes}, ChainBounds.AreAlwaysKept}
 
 -- how long after a job has arrived the next one of its group has written
 abbrev room_of : System → (timing : Group → GroupTiming) → Group → ℕ

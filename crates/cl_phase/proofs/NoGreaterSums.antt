@@ -3,10 +3,10 @@ use Rattle.std.proofs.Common.{◌≡◌, ℕ, ℤ, pos, negsuc, suc, ◌<◌, �
 use Rattle.std.specs.Prelude.{◌+ℤ◌, ◌≤ℤ◌}
 use Rattle.std.proofs.lemmas.Int.{ints}
 use Rattle.cl_model.specs.{declared.group.Group.Group, Groups.group_at, Holds.greatest_by}
-use Rattle.cl_runs.specs.TaskTiming.{System}
 use Rattle.cl_model.proofs.Greatest.{greatest_within}
-use Rattle.cl_bound.specs.{declared.group_timing.GroupTiming.GroupTiming, Hops.{forward_hop, backward_hop, hops}, Bounds.{Lengths, AreBoundsOf, greatest_reaction, greatest_reduced, greatest_delay}, NoGreater.AreNoGreater}
-use Rattle.cl_bound.proofs.ReactionIsAge.{reaction_is_age}
+use Rattle.cl_runs.specs.TaskTiming.{System}
+use Rattle.cl_hop.specs.{declared.group_timing.GroupTiming.GroupTiming, Hops.{forward_hop, backward_hop, hops}, Bounds.{Lengths, AreBoundsOf, greatest_reaction, greatest_reduced, greatest_delay}, NoGreater.AreNoGreater}
+use Rattle.cl_hop.proofs.ReactionIsAge.{reaction_is_age}
 use Rattle.cl_phase.specs.{declared.stop.Stop.Stop, Pace.greatest_step, Walks.{pace_at, last_place}, TightBounds.{hyperperiod_in, starts, ticks_or_none, span_of, last_write, length_from, reduced_from, delay_from, bounds_from}}
 use Rattle.cl_phase.proofs.{Stepped.IsStepped, WalkStarts.AreStops, RunWalks.AreStopsOf, DelaySums.delay_near, WalkSums.{ahead, behind, length_near, reduced_near}}
 

@@ -5,8 +5,8 @@ use Rattle.std.specs.Prelude.{◌+ℤ◌, ◌-ℤ◌, ◌≤ℤ◌, ◌⊎◌}
 use Rattle.std.proofs.lemmas.Int.{ints}
 use Rattle.cl_model.specs.{declared.group.Group.Group, Groups.group_at}
 use Rattle.cl_runs.specs.{TaskTiming.System, Table.job_at, Run.{Run, jobs_of}, Legal.IsLegal, Chains.{first_group, last_group}}
-use Rattle.cl_bound.specs.{Hops.lag, declared.group_timing.GroupTiming.GroupTiming}
-use Rattle.cl_bound.proofs.AlongChains.{last_timing}
+use Rattle.cl_hop.specs.{Hops.lag, declared.group_timing.GroupTiming.GroupTiming}
+use Rattle.cl_hop.proofs.AlongChains.{last_timing}
 use Rattle.cl_phase.specs.{declared.stop.Stop.Stop, Pace.AreNeighbours, Walks.{pace_at, lag_at, last_place}, TightBounds.{span_of, length_from, reduced_from, bounds_from}}
 use Rattle.cl_phase.proofs.{Walking.{KeepsPhase, AreLinkedJobs, length_covers, reduced_covers}, WalkStarts.{AreStops, IsArrivalAt, after_arrives, length_bounded, age_bounded, reduced_bounded}}
 

@@ -6,8 +6,8 @@ use Rattle.cl_model.specs.{declared.group.Group.Group, Groups.group_at}
 use Rattle.cl_runs.specs.{TaskTiming.{System, IsSound}, Run.{Run, jobs_of}, Legal.IsLegal, Moments.{Reads, Writes}, Chains.{JobChain, chain_length, first_group, last_group, first_job, last_job, IsForwardChain, IsAgeChain, IsReducedChain, AreBackwardLinks}, Delays.IsDelayChain}
 use Rattle.cl_runs.specs.RunChains.{run_moments}
 use Rattle.cl_runs.proofs.ChainsKept.{run_age_kept, run_reduced_kept}
-use Rattle.cl_bound.specs.{declared.group_timing.GroupTiming.GroupTiming, Promises.AreAtLeast}
-use Rattle.cl_bound.proofs.{LaterRuns.writes_in_time, LagBounds.{forward_lag, backward_lag}, ChainBounds.AreAlwaysKept}
+use Rattle.cl_hop.specs.{declared.group_timing.GroupTiming.GroupTiming, Promises.AreAtLeast}
+use Rattle.cl_hop.proofs.{LaterRuns.writes_in_time, LagBounds.{forward_lag, backward_lag}, ChainBounds.AreAlwaysKept}
 use Rattle.cl_phase.specs.{declared.stop.Stop.Stop, Walks.last_place, TightBounds.{span_of, bounds_from}}
 use Rattle.cl_phase.proofs.{WalkStarts.AreStops, NextJobs.{HasNextJobs, next_jobs}, RunWalks.{arrival_in, AreStopsOf, AreMissedJobs, span_is, reaction_covers, age_covers, reduced_covers_jobs}}
 

@@ -5,7 +5,7 @@ use Rattle.std.proofs.Common.{◌≡◌, ℕ, List, [], ◌∷◌, refl}
 use Rattle.cl_model.specs.{declared.group.Group.Group, Timing.greatest_distance}
 use Rattle.cl_runs.specs.TaskTiming.{System, timing_at}
 use Rattle.cl_stim.specs.{declared.phase.Phase.Phase, Phase.phase_of}
-use Rattle.cl_bound.specs.declared.group_timing.GroupTiming.{GroupTiming}
+use Rattle.cl_hop.specs.declared.group_timing.GroupTiming.{GroupTiming}
 use Rattle.cl_phase.specs.{Kept.{phase_beside, kept_with, pace_with}, TightBounds.{lag_to_next, stops_beside, span_of, last_write, slowest, bounds_from, tight_bounds}}
 
 module _ (one other : System) (alike : (task : ℕ) → (timing_at one task).pattern ≡ (timing_at other task).pattern) (timing : Group → GroupTiming) where

@@ -2,7 +2,7 @@
 use Rattle.std.proofs.Common.{◌≡◌, ℕ, ℤ, pos, List, ap, ◌∙◌}
 use Rattle.cl_model.specs.declared.{chain.{LengthKind.TheVariants.Reaction, RequirementKind.{RequirementKind, TheVariants.Length}}, group.Group.Group}
 use Rattle.cl_runs.specs.TaskTiming.{System}
-use Rattle.cl_bound.specs.declared.group_timing.GroupTiming.{GroupTiming}
+use Rattle.cl_hop.specs.declared.group_timing.GroupTiming.{GroupTiming}
 use Rattle.cl_phase.specs.{declared.{stop.Stop.Stop, walked.Walked.Walked}, Walks.pace_at, TightBounds.{stops_of, span_of, last_write, slowest, hyperperiod_in, starts}, Walked.{start_among, walk_start, missed, taken, walked_of}}
 
 same_walk : (place place' : ℕ) (miss miss' take take' : List ℤ) → place ≡ place' → miss ≡ miss' → take ≡ take'

@@ -3,7 +3,7 @@ use Rattle.std.proofs.Common.{◌<◌, List, length, arith}
 use Rattle.std.specs.Prelude.{All}
 use Rattle.cl_model.specs.declared.{chain.LengthKind.TheVariants.{Reaction, Age, Reduced}, group.Group.Group}
 use Rattle.cl_runs.specs.TaskTiming.{System, IsSound}
-use Rattle.cl_bound.specs.{Promises.AreAtLeast, Timings.AlwaysKeeps, declared.group_timing.GroupTiming.GroupTiming}
+use Rattle.cl_hop.specs.{Promises.AreAtLeast, Timings.AlwaysKeeps, declared.group_timing.GroupTiming.GroupTiming}
 use Rattle.cl_phase.specs.{CompleteChains.{HasCompleteChains, AreSomeTicks}, TightBounds.tight_bounds}
 use Rattle.cl_phase.proofs.{ChainsComplete.has_complete_chains, DelayExists.delay_takes_time, TightSafety.kept_safe}
 

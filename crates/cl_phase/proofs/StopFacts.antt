@@ -4,7 +4,7 @@ use Rattle.std.proofs.lemmas.Bool.{cond_both}
 use Rattle.cl_model.specs.{declared.{group.Group.Group, stimulus.StimulusKind.StimulusKind}, Groups.group_at, Timing.greatest_distance}
 use Rattle.cl_runs.specs.TaskTiming.{System, timing_at, IsSound}
 use Rattle.cl_stim.specs.{declared.phase.Phase.Phase, Phase.phase_of}
-use Rattle.cl_bound.specs.{Hops.lag, declared.group_timing.GroupTiming.GroupTiming, SettledChains.IsGroupOfTask}
+use Rattle.cl_hop.specs.{Hops.lag, declared.group_timing.GroupTiming.GroupTiming, Timings.IsGroupOfTask}
 use Rattle.cl_phase.specs.{declared.stop.Stop.Stop, Pace.{IsPace, ComesRound, greatest_step}, Kept.{phase_beside, kept_with, pace_with, come_round_soon}, Walks.{pace_at, lag_at}, TightBounds.{stops_beside, hyperperiod_in, slowest}}
 use Rattle.cl_phase.proofs.{PatternPaces.{IsPaceOf, pace_is, pace_step}, Stepped.IsStepped, PaceSteps.paces_step, SlowestFacts.{ArePaced, hyperperiod_comes_round, hyperperiod_is_some, slowest_within}}
 

@@ -3,7 +3,7 @@ use Rattle.std.proofs.Common.{◌≡◌, ℕ, ◌<◌, ◌⊎◌, inl, inr, List
 use Rattle.std.specs.Prelude.{All}
 use Rattle.cl_model.specs.{Groups.{no_group, group_at}, declared.group.Group.Group}
 use Rattle.cl_runs.specs.TaskTiming.{System, IsSound}
-use Rattle.cl_bound.specs.{declared.group_timing.GroupTiming.GroupTiming, Timings.IsTimingOf, SettledChains.IsGroupOfTask}
+use Rattle.cl_hop.specs.{declared.group_timing.GroupTiming.GroupTiming, Timings.{IsTimingOf, IsGroupOfTask}}
 use Rattle.cl_phase.specs.{declared.stop.Stop.Stop, Walks.pace_at, TightBounds.{stops_of, hyperperiod_in, slowest}, Pace.IsPace}
 use Rattle.cl_phase.proofs.{PaceSteps.paces_step, RunPaces.run_neighbours, SlowestFacts.{ArePaced, hyperperiod_comes_round, hyperperiod_is_some, slowest_within, slowest_keeps}, StartFacts.start_within, StopFacts.{length_stops, stop_pace, stop_lag, stop_is_pace, stop_step}}
 use Rattle.cl_phase.proofs.{Walking.{KeepsPhase, IsFreeAt}, WalkStarts.AreStops, RunWalks.AreStopsOf, NoGreaterSums.AreStepsOf}

@@ -3,8 +3,8 @@ use Rattle.std.proofs.Common.{◌<◌, List, [], ◌∷◌, length, map, arith}
 use Rattle.std.specs.Prelude.{All}
 use Rattle.cl_model.specs.{declared.group.Group.Group, Groups.no_group}
 use Rattle.cl_runs.specs.TaskTiming.{System, IsSound}
-use Rattle.cl_bound.specs.{Bounds.{Lengths, AreBoundsOf}, declared.group_timing.GroupTiming.GroupTiming, Timings.{IsTimingOf, AlwaysKeeps}, NoGreater.AreNoGreater, Promises.AreSafe, SettledChains.IsGroupOfTask}
-use Rattle.cl_bound.proofs.ChainBounds.{AreAlwaysKept}
+use Rattle.cl_hop.specs.{Bounds.{Lengths, AreBoundsOf}, declared.group_timing.GroupTiming.GroupTiming, Timings.{IsTimingOf, AlwaysKeeps, IsGroupOfTask}, NoGreater.AreNoGreater, Promises.AreSafe}
+use Rattle.cl_hop.proofs.ChainBounds.{AreAlwaysKept}
 use Rattle.cl_phase.specs.TightBounds.{stops_of, slowest, last_write, tight_bounds}
 use Rattle.cl_phase.proofs.{DelaySafety.delays_within, NoGreaterSums.no_greater_than_sums, SafeRuns.bounds_at_least, StopsOfGroups.{have_stops, are_steps_of}}
 

@@ -10,8 +10,8 @@ use Rattle.cl_model.specs.{declared.group.Group.Group, Holds.greatest_by, Timing
 use Rattle.cl_model.proofs.Greatest.{greatest_least, greatest_within}
 use Rattle.cl_runs.specs.TaskTiming.{System, timing_at, IsSound}
 use Rattle.cl_stim.specs.{declared.phase.Phase.Phase, Phase.phase_of, Multiples.hyperperiod_of}
-use Rattle.cl_bound.specs.{declared.group_timing.GroupTiming.GroupTiming, NoGreater.{StaysWithin, AreNoGreater}, SettledChains.IsGroupOfTask}
-use Rattle.cl_bound.proofs.NoGreater.{lag_no_greater, last_stays}
+use Rattle.cl_hop.specs.{declared.group_timing.GroupTiming.GroupTiming, NoGreater.{StaysWithin, AreNoGreater}, Timings.IsGroupOfTask}
+use Rattle.cl_hop.proofs.NoGreater.{lag_no_greater, last_stays}
 use Rattle.cl_phase.specs.{declared.{pace.Pace.{Pace, TheVariants.{Kept, Free}}, stop.Stop.Stop}, Pace.{first_from, last_by, previous, next}, Kept.{phase_beside, kept_with, pace_with, phases_in}, Walks.{pace_at, lag_at, onward, back, last_place, arrival_at_last, arrival_at_first}}
 use Rattle.cl_phase.specs.TightBounds.{lag_to_next, stops_beside, stops_of, hyperperiod_in, has_no_fewer, is_slowest, slowest, starts, ticks_or_none, length_from, reduced_from, delay_from, bounds_from, span_of, last_write, tight_bounds}
 use Rattle.cl_phase.proofs.{Stepped.IsStepped, WalksBothWays.{first_rises, last_rises}, SlowestGroups.{pace_of, along}, SlowestFacts.slowest_within, StopFacts.{length_stops, stops_step}, DelaySteps.next_rises}

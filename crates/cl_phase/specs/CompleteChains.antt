@@ -2,7 +2,7 @@
 use Rattle.std.specs.Prelude.{◌≤◌, List}
 use Rattle.cl_model.specs.declared.{chain.LengthKind.LengthKind, group.Group.Group}
 use Rattle.cl_runs.specs.{TaskTiming.System, Run.Run, Legal.IsLegal, Chains.{JobChain, chain_length}, RunChains.run_moments, Requirements.IsChainOfKind}
-use Rattle.cl_bound.specs.Bounds.{Lengths}
+use Rattle.cl_hop.specs.Bounds.{Lengths}
 
 -- a run has a complete chain of a kind along groups, and it lasts 1 tick or more
 pub record HasChainOfKind (system : System) (run : Run) (groups : List Group) (kind : LengthKind) : Type 0 where

@@ -4,7 +4,7 @@ use Rattle.std.specs.List.{list_all, range_with_len}
 use Rattle.cl_model.specs.{Holds.greatest_by, declared.group.Group.Group, Timing.greatest_distance}
 use Rattle.cl_runs.specs.TaskTiming.{System, timing_at}
 use Rattle.cl_stim.specs.{declared.phase.Phase.Phase, Phase.{phase_of, arrives_at, arrivals_in}, Multiples.hyperperiod_of}
-use Rattle.cl_bound.specs.{Bounds.{Lengths, last_of}, Hops.lag, declared.group_timing.GroupTiming.GroupTiming}
+use Rattle.cl_hop.specs.{Bounds.{Lengths, last_of}, Hops.lag, declared.group_timing.GroupTiming.GroupTiming}
 use Rattle.cl_phase.specs.{declared.{pace.Pace.{Pace, TheVariants.{Kept, Free}}, stop.Stop.Stop}, Pace.{previous, next}, Kept.{phase_beside, kept_with, pace_with, phases_in}, Walks.{pace_at, last_place, arrival_at_last, arrival_at_first}}
 
 -- ---- the groups of a chain

@@ -3,7 +3,7 @@ use Rattle.std.specs.Prelude.{ℕ, ◌+◌, ◌-◌, ℤ, pos, ◌==◌, List, m
 use Rattle.std.specs.List.{range_with_len}
 use Rattle.cl_model.specs.declared.{chain.{LengthKind.TheVariants.{Reaction, Age, Reduced}, RequirementKind.{RequirementKind, TheVariants.{Length, Delay}}}, group.Group.Group}
 use Rattle.cl_runs.specs.TaskTiming.{System}
-use Rattle.cl_bound.specs.declared.group_timing.GroupTiming.{GroupTiming}
+use Rattle.cl_hop.specs.declared.group_timing.GroupTiming.{GroupTiming}
 use Rattle.cl_phase.specs.{declared.{stop.Stop.Stop, walked.Walked.Walked}, Pace.previous, Walks.{pace_at, last_place, onward, back}, TightBounds.{stops_of, span_of, last_write, slowest, hyperperiod_in, starts, ticks_or_none, length_from, reduced_from, delay_from}}
 
 -- how long the walks from an arrival of the group of a place last, of a kind

@@ -2,12 +2,12 @@
 ghost use Rattle.std.specs.Prelude.{◌≡◌, ◌<◌, ◌≤◌, length, map, All};
 ghost use Rattle.cl_model.specs.{declared.{limits.TheConstants.MOST_STEPS, group.Group.Group}, Groups.IsGroupOf, Validity.IsValid};
 ghost use Rattle.cl_runs.specs.SystemOf.{system_of};
-ghost use Rattle.cl_bound.specs.{Hops.IsNear, declared.group_timing.GroupTiming.GroupTiming};
+ghost use Rattle.cl_hop.specs.{Hops.IsNear, declared.group_timing.GroupTiming.GroupTiming};
 ghost use Rattle.cl_phase.specs.TightBounds.{tight_bounds};
 
 use crate::course::course_of;
 use crate::scanning::longest;
-use cl_bound::{Bounds, GroupTiming};
+use cl_hop::{Bounds, GroupTiming};
 use cl_model::{Group, ValidModel};
 
 /// Finds the tight bounds of groups of a valid model that follow each other, a chain of it or a

@@ -3,14 +3,14 @@ ghost use Rattle.std.specs.Prelude.{◌≡◌, ◌<◌, ◌≤◌, length, All};
 ghost use Rattle.cl_model.specs.{declared.limits.TheConstants.{MOST_TICKS, MOST_STEPS}, Groups.IsGroupOf, Validity.IsValid};
 ghost use Rattle.cl_runs.specs.SystemOf.{system_of};
 ghost use Rattle.cl_stim.specs.Integers.{IsIntegerWithin};
-ghost use Rattle.cl_bound.specs.Hops.{IsNear};
+ghost use Rattle.cl_hop.specs.Hops.{IsNear};
 ghost use Rattle.cl_phase.specs.Inner.Course.{first_lag, IsCourseOf};
 
 use crate::keeping::Keeping;
 use crate::stop::Stop;
 use crate::walk::Ends;
 use arrayvec::ArrayVec;
-use cl_bound::GroupTiming;
+use cl_hop::GroupTiming;
 use cl_model::{Group, MOST_STEPS, ValidModel};
 
 /// The groups of a chain, the phases that they keep, and the ends of the chain.

@@ -1,16 +1,16 @@
 //! The walk of a chain that shows why its tight bound is what it is. Times are in ticks.
 ghost use Rattle.std.specs.Prelude.{◌≡◌, ◌<◌, ◌≤◌, pos, length, map, All, IfOk};
-ghost use Rattle.cl_bound.specs.{Hops.IsNear, declared.group_timing.GroupTiming.GroupTiming};
 ghost use Rattle.cl_model.specs.{declared.{group.Group.Group, limits.TheConstants.MOST_STEPS}, Groups.IsGroupOf};
 ghost use Rattle.cl_runs.specs.SystemOf.{system_of};
 ghost use Rattle.cl_stim.specs.Integers.{IsIntegerWithin};
+ghost use Rattle.cl_hop.specs.{Hops.IsNear, declared.group_timing.GroupTiming.GroupTiming};
 ghost use Rattle.cl_phase.specs.{declared.pace.Pace.Pace, TightBounds.starts, Walks.pace_at, Walked.{start_among, missed, taken, walked_of}, Inner.{Ranges.{FARTHEST_START, LONGEST_HYPERPERIOD, AreStopsInRange, AreEndsInRange}, Longest.{span_between, length_of_kind}}};
 
 use crate::course::course_of;
 use crate::pace::Pace;
 use crate::stop::Stop;
 use crate::walk::{Ends, Longest, arrival_back, arrival_onward, lengths_at};
-use cl_bound::GroupTiming;
+use cl_hop::GroupTiming;
 use cl_model::{Group, LengthKind, List, MOST_STEPS, RequirementKind, ValidModel};
 use cl_stim::Phase;
 use cl_time::NoMemory;

@@ -2,17 +2,17 @@
 //! one that takes. Times are in ticks.
 ghost use Rattle.std.specs.Prelude.{◌≡◌, ◌<◌, ◌≤◌, ◌^◌, ◌-◌, pos, ◌+ℤ◌, ◌-ℤ◌, ◌≤ℤ◌, length, map, All, IfOk};
 ghost use Rattle.std.specs.List.{range_with_len};
-ghost use Rattle.cl_bound.specs.{Hops.IsNear, declared.group_timing.GroupTiming.GroupTiming};
 ghost use Rattle.cl_model.specs.{declared.{group.Group.Group, limits.TheConstants.MOST_STEPS}, Groups.IsGroupOf, Ranges.IsKindInRange, Timing.IsKindOrdered};
 ghost use Rattle.cl_runs.specs.SystemOf.{system_of};
 ghost use Rattle.cl_stim.specs.{Integers.IsIntegerWithin, Phase.IsMoment};
+ghost use Rattle.cl_hop.specs.{Hops.IsNear, declared.group_timing.GroupTiming.GroupTiming};
 ghost use Rattle.cl_phase.specs.{Walks.pace_at, Whole.{is_kept, missed_at, taken_at, takes_before, counted_at, LATEST_STEADY, IsLeastTurns, IsWholeWalkOf}, Inner.Ranges.{FARTHEST_START, FARTHEST_JOB, FARTHEST_MOVE, AreStopsInRange}};
 
 use crate::course::course_of;
 use crate::stop::Stop;
 use crate::walk::{arrival_back, arrival_onward};
 use crate::walked::start_of;
-use cl_bound::GroupTiming;
+use cl_hop::GroupTiming;
 use cl_model::{Group, LengthKind, List, RequirementKind, StimulusKind, ValidModel};
 use cl_time::NoMemory;
 use std::alloc::Global;

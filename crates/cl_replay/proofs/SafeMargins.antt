@@ -3,7 +3,7 @@ use Rattle.std.proofs.Common.{◌≡◌, ℕ, ◌+◌, ◌-◌, ◌<◌, ◌≤�
 use Rattle.cl_model.specs.{declared.{model.SystemModel.SystemModel, chain.LengthKind.{LengthKind, TheVariants.{Reaction, Age, Reduced}}}, ByNumber.chain_at, Groups.{groups_of, groups_at, steps_of}, Validity.IsValid}
 use Rattle.cl_runs.specs.{Run.Run, SystemOf.system_of, Legal.IsLegal, Chains.{JobChain, chain_length}, RunChains.run_moments, Measured.{Measured, IsMeasuredBy, IsMeasured}, Requirements.IsChainOfKind}
 use Rattle.cl_runs.proofs.{ChainsOfRuns.{run_forward_ordered, run_age_ordered, run_reduced_ordered}, ModelSystem.system_sound}
-use Rattle.cl_bound.specs.{Bounds.Lengths, Promises.AreAtLeast}
+use Rattle.cl_hop.specs.{Bounds.Lengths, Promises.AreAtLeast}
 use Rattle.cl_analyse.specs.{declared.findings.{ChainAnswer.{ChainAnswer, TheVariants.{Bounds, Late}}, Findings.Findings}, ChainAnswers.chain_answer_at, Findings.AreFindings, Verdicts.{bound_of_kind, bound_value}}
 use Rattle.cl_analyse.proofs.SafeFindings.{findings_safe}
 use Rattle.cl_replay.specs.{Margins.{HasMargin, LongestHasMargin, HaveMargins, IsReplayWithMargins}, Replay.{AreMeasured, measured_at, longest_of_kind, IsReplayOf}}

@@ -3,5 +3,4 @@ pub mod OneReport
 pub mod SmallSums
 pub mod SurveyPieces
 pub mod OneSurvey
-pub mod TightLines
 pub mod Pieces

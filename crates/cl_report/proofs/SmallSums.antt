@@ -10,9 +10,9 @@ use Rattle.cl_model.specs.{Timing.greatest_distance, Validity.IsValid}
 use Rattle.cl_model.proofs.GroupFacts.{groups_at_are, groups_at_few}
 use Rattle.cl_runs.specs.{TaskTiming.Timing, SystemOf.system_of}
 use Rattle.cl_runs.proofs.ModelSystem.{timing_is, system_sound}
-use Rattle.cl_stim.proofs.ValidStimuli.{has_stimulus}
-use Rattle.cl_resp.proofs.StimulusKinds.{greatest_few}
-use Rattle.cl_bound.specs.{Answers.answers_of, Hops.group_timing, Bounds.{Lengths, bounds_of}, SettledChains.AreWithin}
+use Rattle.cl_stim.proofs.{ValidStimuli.has_stimulus, StimulusKinds.greatest_few}
+use Rattle.cl_hop.specs.{Hops.group_timing, Bounds.Lengths}
+use Rattle.cl_bound.specs.{Answers.answers_of, Bounds.bounds_of, SettledChains.AreWithin}
 use Rattle.cl_bound.proofs.SettledChains.{limited}
 use Rattle.cl_analyse.specs.{declared.findings.{ChainAnswer.ChainAnswer, Findings.Findings}, ChainAnswers.{first_late, chain_answer, chain_answer_of}, Findings.AreFindings, Verdicts.{bound_of_kind, bound_value}}
 use Rattle.cl_analyse.proofs.SafeFindings.{chain_settled}

@@ -4,7 +4,8 @@ use Rattle.std.specs.List.{flat_map, range_with_len}
 use Rattle.cl_text.specs.Line.{line}
 use Rattle.cl_model.specs.{declared.{model.SystemModel.SystemModel, chain.{LengthKind.{LengthKind, TheVariants.{Reaction, Age, Reduced}}, RequirementDef.RequirementDef}}, Kinds.{length_word, requirement_word}, ByNumber.{task_at, deadline_of, chain_at}, Groups.{group_at, groups_at}}
 use Rattle.cl_runs.specs.Requirements.{requirement_at}
-use Rattle.cl_bound.specs.{declared.answer.TaskAnswer.TaskAnswer, Answers.answer_at, Bounds.Lengths}
+use Rattle.cl_hop.specs.Bounds.{Lengths}
+use Rattle.cl_bound.specs.{declared.answer.TaskAnswer.TaskAnswer, Answers.answer_at}
 use Rattle.cl_bound.specs.declared.answer.TaskAnswer.TheVariants as task
 use Rattle.cl_exact.specs.declared.witness.Witness.{Witness}
 use Rattle.cl_analyse.specs.{declared.findings.{ChainAnswer.ChainAnswer, ExactAnswer.ExactAnswer, Verdict.{Verdict, TheVariants.{Met, Broken, Unshown}}, Findings.Findings}, ChainAnswers.{chain_answer_at, exact_answer_at}, Verdicts.verdict_at, Findings.AreFindings}

@@ -9,7 +9,8 @@ use crate::exact_lines::put_exact;
 use crate::requirement_lines::put_requirements;
 use crate::words::{put_name, put_task_name};
 use cl_analyse::{ChainAnswer, Findings};
-use cl_bound::{Bounds, TaskAnswer};
+use cl_bound::TaskAnswer;
+use cl_hop::Bounds;
 use cl_model::{List, ValidModel};
 use cl_text::Text;
 use cl_time::NoMemory;
@@ -46,7 +47,7 @@ pub fn put_report(text: &mut Text, model: &ValidModel, findings: &Findings) -> R
 }
 
 /// Puts the lines of all tasks in file order. There is one answer for each task.
-pub(crate) fn put_tasks(
+pub fn put_tasks(
     text: &mut Text,
     model: &ValidModel,
     tasks: &List<TaskAnswer>,
@@ -142,7 +143,7 @@ pub fn put_chain(
 }
 
 /// Puts the bounds of a chain, or the late task that leaves it without bounds.
-pub(crate) fn put_chain_answer(
+pub fn put_chain_answer(
     text: &mut Text,
     model: &ValidModel,
     answer: &ChainAnswer,

@@ -2,12 +2,12 @@
 -- phase: each is no more than the next.
 use Rattle.std.proofs.Common.{◌≡◌, ℕ, ◌<◌, ◌≤◌, ℤ, pos, ◌-ℤ◌, Bool, true, false, Option, Some, None, length, refl, arith, mul-le-mul_right}
 use Rattle.cl_model.specs.{declared.stimulus.StimulusKind.StimulusKind, Timing.greatest_jitter}
-use Rattle.cl_runs.specs.{Pattern.IsPattern, TaskTiming.{System, timing_at, IsSound}, Run.{Run, jobs_of}, Legal.IsLegal}
+use Rattle.cl_runs.specs.{Pattern.IsPattern, TaskTiming.{System, timing_at, IsSound}, Run.{Run, jobs_of}, Legal.IsLegal, ExecutionTimes.greatest_execution}
 use Rattle.cl_runs.proofs.RunArrivals.{follow_pattern}
 use Rattle.cl_stim.specs.{declared.phase.Phase.Phase, Phase.phase_of, Releases.{releases_in, most_releases}}
 use Rattle.cl_stim.proofs.Releases.{few_releases}
 use Rattle.cl_cycle.proofs.{CountedJobs.released_in_phase, CountedMost.most_arrivals}
-use Rattle.cl_resp.specs.{Question.greatest_execution, Clear.{time_released, released_above, needed}, ByPhase.{phase_if, released_by, time_by, demand_by}}
+use Rattle.cl_resp.specs.{Clear.{time_released, released_above, needed}, ByPhase.{phase_if, released_by, time_by, demand_by}}
 use Rattle.cl_resp.proofs.{BusyWindowTotals.{total, total_rises, total_of_range}, BusyWindowTicks.above, BusyWindowDemand.{most_taken, HoldsDemand}}
 
 -- a task that counts by a phase counts by its own

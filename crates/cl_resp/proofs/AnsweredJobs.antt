@@ -3,12 +3,12 @@
 -- time.
 use Rattle.std.proofs.Common.{◌≡◌, ℕ, zero, suc, ◌+◌, ◌-◌, ◌<◌, ◌≤◌, pos, ◌+ℤ◌, ◌≤ℤ◌, Bool, Option, Some, None, unwrap_or, length, refl, arith}
 use Rattle.std.proofs.lemmas.Int.{ints}
-use Rattle.cl_runs.specs.{TaskTiming.{System, timing_at, IsSound}, Table.job_at, Run.{Run, jobs_of}, Legal.IsLegal, Responses.AlwaysFinishesWithin}
+use Rattle.cl_runs.specs.{TaskTiming.{System, timing_at, IsSound}, Table.job_at, Run.{Run, jobs_of}, Legal.IsLegal, Responses.AlwaysFinishesWithin, ExecutionTimes.greatest_execution}
 use Rattle.cl_runs.proofs.RunArrivals.{arrives_after_deadline, arrives_below, released_late, released_within}
 use Rattle.cl_stim.specs.{declared.phase.Phase.Phase, Phase.{IsArrivalOf, phase_of}}
 use Rattle.cl_stim.proofs.RunPhases.{run_arrives}
 use Rattle.cl_cycle.specs.Counts.{each_moment}
-use Rattle.cl_resp.specs.{Question.greatest_execution, Asked.{EndsBy, AnswersWithin}, ByPhase.asked_with, Clear.{IsBeginning, greatest_through, needed, FinishesBy, IsDoneBy}, Promises.AlwaysFinishesThrough}
+use Rattle.cl_resp.specs.{Asked.{EndsBy, AnswersWithin}, ByPhase.asked_with, Clear.{IsBeginning, greatest_through, needed, FinishesBy, IsDoneBy}, Promises.AlwaysFinishesThrough}
 use Rattle.cl_resp.proofs.{ClearMoments.{clear_first, beginning_there, runnable_in_window, job_in_window, done_finishes}, AnsweredDemand.needs_no_more, AnsweredWindows.{arrivals_phase, each_arrives, ends_in_time}}
 
 -- a window of the run that is wide enough for so much work of a task, and ends by a moment

@@ -9,11 +9,11 @@ use Rattle.std.proofs.lemmas.List.Folds.{list_any_at}
 use Rattle.std.proofs.lemmas.List.FromFn.{get_or-range_with_len, length-range_with_len}
 use Rattle.std.proofs.lemmas.List.Sums.{list_all-from_AllPass}
 use Rattle.cl_model.specs.Timing.{greatest_jitter}
-use Rattle.cl_runs.specs.TaskTiming.{System, timing_at, IsSound}
+use Rattle.cl_runs.specs.{TaskTiming.{System, timing_at, IsSound}, ExecutionTimes.greatest_execution}
 use Rattle.cl_runs.proofs.FirstFound.{first_found, none_passes}
 use Rattle.cl_stim.specs.Phase.{arrives_at}
 use Rattle.cl_cycle.specs.Cycles.{is_one_of, in_phase_above}
-use Rattle.cl_resp.specs.{Question.greatest_execution, Response.{IsSettled, IsTightlySettled}, Asked.{Asked, holds_within, beginnings_of, is_answered, suffices, least_response, AnswersWithin}, ByPhase.{asked_with, asked_by_phase, response_by_phase, IsSettledByPhase}}
+use Rattle.cl_resp.specs.{Response.{IsSettled, IsTightlySettled}, Asked.{Asked, holds_within, beginnings_of, is_answered, suffices, least_response, AnswersWithin}, ByPhase.{asked_with, asked_by_phase, response_by_phase, IsSettledByPhase}}
 use Rattle.cl_resp.proofs.{BusyWindowDemand.window_holds, LessAsked.tight_no_later, SettledTasks.{answered_window, answered_response, tight_answer}, AnsweredDemand.{choice_asks_less, holds_anywhere}}
 
 -- ---- a window that serves wherever it begins

@@ -5,12 +5,11 @@ use Rattle.std.specs.List.{sum_by, range_with_len}
 use Rattle.std.proofs.Math.Nat.{mul-le-mul_left}
 use Rattle.std.proofs.lemmas.List.Elements.{All-weaker, filter_passes}
 use Rattle.cl_model.specs.{declared.stimulus.StimulusKind.StimulusKind, Timing.greatest_jitter}
-use Rattle.cl_runs.specs.{TaskTiming.{System, timing_at, IsSound}, Priorities.{is_above, tasks_above}}
+use Rattle.cl_runs.specs.{TaskTiming.{System, timing_at, IsSound}, Priorities.{is_above, tasks_above}, ExecutionTimes.greatest_execution}
 use Rattle.cl_stim.specs.Phase.{IsArrivalOf, last_arrival}
 use Rattle.cl_cycle.specs.{Counts.arrivals_of, Cycles.{is_one_of, in_phase_above}}
 use Rattle.cl_cycle.proofs.SameCycles.{same_above, same_in_phase}
-use Rattle.cl_resp.specs.{Asked.{MayBegin, AnswersWithin, IsLeastResponse, least_response}, ByPhase.{phase_if, released_by, time_by, demand_by, asked_by_phase, response_by_phase, response_through, IsSettledByPhase}, Clear.greatest_through, LesserTimes.TakesNoMore}
-use Rattle.cl_resp.specs.{Question.greatest_execution, Response.Response}
+use Rattle.cl_resp.specs.{Asked.{MayBegin, AnswersWithin, IsLeastResponse, least_response}, ByPhase.{phase_if, released_by, time_by, demand_by, asked_by_phase, response_by_phase, response_through, IsSettledByPhase}, Clear.greatest_through, LesserTimes.TakesNoMore, Response.Response}
 use Rattle.cl_resp.proofs.{AnsweredSooner.settled_by_phase, LeastAnswers.{found_is_least, finds_some}, LeastParts.settled_least, LeastRound.asked_comes_round, PhasedAnswers.sums_ordered_on}
 
 module _ (less more : System) (task : ℕ) (takes : TakesNoMore less more task) where

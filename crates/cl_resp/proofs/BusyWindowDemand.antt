@@ -5,10 +5,11 @@ use Rattle.std.specs.Prelude.{sum_by, map, filter}
 use Rattle.std.proofs.lemmas.List.Sums.{sum_by-le-sum_by}
 use Rattle.std.proofs.lemmas.List.Folds.{fold-map}
 use Rattle.cl_model.specs.{declared.stimulus.StimulusKind.StimulusKind, Timing.greatest_jitter}
-use Rattle.cl_runs.specs.{TaskTiming.{Timing, System, timing_at, no_timing, IsSound}, Priorities.is_above}
+use Rattle.cl_runs.specs.{TaskTiming.{Timing, System, timing_at, no_timing, IsSound}, Priorities.is_above, ExecutionTimes.greatest_execution}
 use Rattle.cl_stim.specs.{AnyStimulus.{kind_of, as_stimulus}, Releases.most_releases}
-use Rattle.cl_resp.specs.{declared.question.{Above.Above, Question.Question}, Question.{greatest_execution, lower_block_of, taken_by, AsksEnough}, Response.{demand, IsWindow}}
-use Rattle.cl_resp.proofs.{BusyWindowTotals.{total, total_of_list}, BusyWindowTicks.above, StimulusKinds.kind_of-as_stimulus}
+use Rattle.cl_stim.proofs.StimulusKinds.{kind_of-as_stimulus}
+use Rattle.cl_resp.specs.{declared.question.{Above.Above, Question.Question}, Question.{lower_block_of, taken_by, AsksEnough}, Response.{demand, IsWindow}}
+use Rattle.cl_resp.proofs.{BusyWindowTotals.{total, total_of_list}, BusyWindowTicks.above}
 
 -- the most ticks that task j takes of a window
 abbrev pub most_taken : System → (width j : ℕ) → ℕ

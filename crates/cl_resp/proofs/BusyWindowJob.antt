@@ -3,10 +3,10 @@
 -- it is done. For what the tasks above release in the window is no more than the most that they
 -- can.
 use Rattle.std.proofs.Common.{ℕ, ◌+◌, ◌≤◌, ◌<◌, length, arith, mul-le-mul_right}
-use Rattle.cl_runs.specs.{TaskTiming.{System, timing_at, IsSound}, Table.job_at, Run.{Run, jobs_of, executed}, Legal.IsLegal}
+use Rattle.cl_runs.specs.{TaskTiming.{System, timing_at, IsSound}, Table.job_at, Run.{Run, jobs_of, executed}, Legal.IsLegal, ExecutionTimes.greatest_execution}
 use Rattle.cl_runs.proofs.RunArrivals.{follow_pattern}
 use Rattle.cl_stim.proofs.Releases.{few_releases}
-use Rattle.cl_resp.specs.{Question.greatest_execution, Clear.{work_of_first, time_released, released_above, needed, IsDoneBy}}
+use Rattle.cl_resp.specs.Clear.{work_of_first, time_released, released_above, needed, IsDoneBy}
 use Rattle.cl_resp.proofs.{BusyWindowTotals.{total, total_rises, total_of_range}, BusyWindowTicks.above, BusyWindowDemand.{most_taken, HoldsDemand}, BusyWindowRun.{IsLastClearTo, job_done}}
 
 module _ (system : System) (sound : IsSound system) (run : Run) (legal : IsLegal system run) (i : ℕ) (is : i < length system.tasks) where

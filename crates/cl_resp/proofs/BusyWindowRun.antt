@@ -8,10 +8,10 @@ use Rattle.std.specs.Prelude.{sum}
 use Rattle.std.proofs.Math.Numerals.{add-one}
 use Rattle.std.proofs.lemmas.Bool.{cases_lt, cases_eq}
 use Rattle.std.proofs.lemmas.List.Sums.{sum_by_more}
-use Rattle.cl_runs.specs.{TaskTiming.{System, timing_at, IsSound}, declared.job.Job.Job, Table.{job_at, no_job}, Run.{Run, jobs_of, executed}, Legal.{IsHighestPending, IsLegal}, Work.{work_before, work_through}, Moments.Starts}
+use Rattle.cl_runs.specs.{TaskTiming.{System, timing_at, IsSound}, declared.job.Job.Job, Table.{job_at, no_job}, Run.{Run, jobs_of, executed}, Legal.{IsHighestPending, IsLegal}, Work.{work_before, work_through}, Moments.Starts, ExecutionTimes.greatest_execution}
 use Rattle.cl_runs.proofs.{Climbing.climb_mono, Executed.executed_climbs, Holding.start_pending, LegalFacts.{job_times, job_places, time_positive, executed_total}, MomentFacts.has_started, RunArrivals.releases_in_order, StartsFinishes.finishes_by, Work.{through_job, before_job}}
 use Rattle.cl_runs.proofs.Work.{before_past}
-use Rattle.cl_resp.specs.{Question.{greatest_execution, lower_block_of}, Clear.{released_before, work_of_first, IsClear, greatest_through, time_released, released_above, needed, FinishesBy, IsDoneBy}}
+use Rattle.cl_resp.specs.{Question.lower_block_of, Clear.{released_before, work_of_first, IsClear, greatest_through, time_released, released_above, needed, FinishesBy, IsDoneBy}}
 use Rattle.cl_resp.proofs.{BusyWindowTotals.{total, total_within, total_rises, total_reached, total_of_range}, BusyWindowStart.{some_or_none, IsLastClear, busy, grows_by_width}, BusyWindowWork.{released_is, before_rises, work_added, first_released, first_alone, job_within, place_within}}
 use Rattle.cl_resp.proofs.{BusyWindowTicks.{above, above_core, above_priority, executed_above, executed_before, executed_rises, IsWaiting, runs_waiting, grows_here}, BusyWindowHeld.held_early}
 

@@ -6,10 +6,10 @@ use Rattle.std.proofs.Math.Numerals.{add-one}
 use Rattle.std.proofs.lemmas.Bool.Decides.{nat_tests}
 use Rattle.std.proofs.lemmas.List.Elements.{All-head, All-tail}
 use Rattle.std.proofs.lemmas.List.Sums.{sum_by-cons, sum_by-le-sum_by, sum_by_more}
-use Rattle.cl_runs.specs.{TaskTiming.{TimeRange, Timing}, declared.job.Job.Job, Table.{job_at, LiesIn, HasTimes}, Legal.released, Work.{work_through, work_before}}
+use Rattle.cl_runs.specs.{TaskTiming.{TimeRange, Timing}, declared.job.Job.Job, Table.{job_at, LiesIn, HasTimes}, Legal.released, Work.{work_through, work_before}, ExecutionTimes.greatest_execution}
 use Rattle.cl_runs.proofs.ZippedLists.{zip_take}
 use Rattle.cl_stim.specs.Releases.{releases_in}
-use Rattle.cl_resp.specs.{Question.greatest_execution, Clear.{released_before, greatest_through}}
+use Rattle.cl_resp.specs.Clear.{released_before, greatest_through}
 
 before_next : (r t v : ℕ) → cond (nat_le r t) v 0 ≤ cond (nat_lt r (suc t)) v 0
 before_next r t v = grind (arith, nat_tests)

@@ -1,9 +1,9 @@
 -- Where the windows of jobs begin, and what has come by their ends.
 use Rattle.std.proofs.Common.{ℕ, ◌+◌, ◌-◌, ◌*◌, ◌<◌, ◌≤◌, inl, inr, length, arith}
-use Rattle.cl_runs.specs.{TaskTiming.{Timing, System, timing_at, no_timing, IsSound}, Table.job_at, Run.{Run, jobs_of, executed}, Legal.IsLegal, Priorities.is_above}
+use Rattle.cl_runs.specs.{TaskTiming.{Timing, System, timing_at, no_timing, IsSound}, Table.job_at, Run.{Run, jobs_of, executed}, Legal.IsLegal, Priorities.is_above, ExecutionTimes.greatest_execution}
 use Rattle.cl_runs.proofs.{Climbing.climb_mono, Executed.executed_climbs, LegalFacts.{place_of_task, job_places}, StartsFinishes.finishes_by, Work.through_job}
 use Rattle.cl_stim.specs.Releases.{most_releases}
-use Rattle.cl_resp.specs.{declared.question.Question.Question, Question.{greatest_execution, AsksEnough}, Response.demand, Clear.{released_before, work_of_first, IsClear, IsBeginning, greatest_through, needed, FinishesBy, IsDoneBy}}
+use Rattle.cl_resp.specs.{declared.question.Question.Question, Question.AsksEnough, Response.demand, Clear.{released_before, work_of_first, IsClear, IsBeginning, greatest_through, needed, FinishesBy, IsDoneBy}}
 use Rattle.cl_resp.proofs.{BusyWindowTotals.total_of_list, BusyWindowStart.{some_or_none, last_clear, no_later}, BusyWindowWork.before_zero, BusyWindowTicks.above, BusyWindowDemand.demand_counts, BusyWindowRun.{IsLastClearTo, place_finishes, job_done}, BusyWindowJob.released_few}
 
 module _ (system : System) (run : Run) (i : ℕ) where

@@ -9,10 +9,11 @@ use Rattle.std.proofs.lemmas.Nat.{div-add-mod'}
 use Rattle.std.proofs.lemmas.List.Sums.{sum_by-cons}
 use Rattle.std.proofs.Math.Nat.{mul-le-mul_right}
 use Rattle.cl_model.specs.declared.stimulus.StimulusKind.{StimulusKind, TheVariants.{Periodic, Sporadic, Burst}}
-use Rattle.cl_runs.specs.{Pattern.IsPattern, TaskTiming.{Timing, System, timing_at, IsSound}, Priorities.is_above}
+use Rattle.cl_runs.specs.{Pattern.IsPattern, TaskTiming.{Timing, System, timing_at, IsSound}, Priorities.is_above, ExecutionTimes.greatest_execution}
 use Rattle.cl_stim.specs.{AnyStimulus.{kind_of, as_stimulus}, Releases.most_releases}
-use Rattle.cl_resp.specs.{declared.question.{Block.{Block, TheVariants.{OfLower, WithOwn}}, Above.Above}, Question.{greatest_execution, taken_by, question_of, tight_question_of, either_question}, Response.{demand, NoneServesBelow}, Inner.Rising.taken_in}
-use Rattle.cl_resp.proofs.{StimulusKinds.kind_of-as_stimulus, SettledTasks.tasks_take_time, Windows.demand_some}
+use Rattle.cl_stim.proofs.StimulusKinds.{kind_of-as_stimulus}
+use Rattle.cl_resp.specs.{declared.question.{Block.{Block, TheVariants.{OfLower, WithOwn}}, Above.Above}, Question.{taken_by, question_of, tight_question_of, either_question}, Response.{demand, NoneServesBelow}, Inner.Rising.taken_in}
+use Rattle.cl_resp.proofs.{SettledTasks.tasks_take_time, Windows.demand_some}
 
 -- ---- a sum over more items is no less
 

@@ -5,12 +5,12 @@ use Rattle.std.proofs.Math.Nat.{mul-le-mul_right}
 use Rattle.std.proofs.lemmas.Int.{ints}
 use Rattle.std.proofs.lemmas.List.Sums.{sum_by-le-sum_by, sum_by-take-drop}
 use Rattle.cl_model.specs.{declared.stimulus.StimulusKind.StimulusKind, Timing.greatest_jitter}
-use Rattle.cl_runs.specs.{TaskTiming.{TimeRange, Timing, System, timing_at, IsSound}, Priorities.tasks_above}
+use Rattle.cl_runs.specs.{TaskTiming.{TimeRange, Timing, System, timing_at, IsSound}, Priorities.tasks_above, ExecutionTimes.greatest_execution}
 use Rattle.cl_stim.specs.declared.phase.Phase.{Phase}
 use Rattle.cl_stim.proofs.Releases.{most_rises}
 use Rattle.cl_cycle.specs.Cycles.{is_one_of, in_phase_above, cycle_of}
 use Rattle.cl_cycle.proofs.CountedTicks.{wider_has}
-use Rattle.cl_resp.specs.{Asked.AnswersWithin, ByPhase.{phase_if, released_by, time_by, demand_by, asked_with, asked_by_phase, response_through, IsSettledByPhase}, Clear.{greatest_through, greatest_behind}, Question.greatest_execution}
+use Rattle.cl_resp.specs.{Asked.AnswersWithin, ByPhase.{phase_if, released_by, time_by, demand_by, asked_with, asked_by_phase, response_through, IsSettledByPhase}, Clear.{greatest_through, greatest_behind}}
 use Rattle.cl_resp.proofs.{LeastAnswers.finds_some, LeastParts.{settled_least, execution_in_response}, LeastRound.asked_comes_round, PhasedAnswers.through_between}
 
 -- the runnables up to a place and those behind it are all

@@ -4,11 +4,11 @@ use Rattle.std.specs.Option.{option_map}
 use Rattle.std.proofs.lemmas.Int.{ints}
 use Rattle.std.proofs.lemmas.Option.{same_Some}
 use Rattle.cl_model.specs.Timing.{greatest_jitter}
-use Rattle.cl_runs.specs.{TaskTiming.{System, timing_at, IsSound}, Responses.IsTimely}
+use Rattle.cl_runs.specs.{TaskTiming.{System, timing_at, IsSound}, Responses.IsTimely, ExecutionTimes.greatest_execution}
 use Rattle.cl_stim.specs.Phase.{IsPhase, last_arrival}
 use Rattle.cl_stim.proofs.PhaseSteps.{last_arrives, last_before}
 use Rattle.cl_cycle.specs.Cycles.{is_one_of, in_phase_above, cycle_of}
-use Rattle.cl_resp.specs.{Asked.{Asked, least_response, AnswersWithin, IsLeastResponse}, ByPhase.{demand_by, asked_by_phase, response_by_phase, response_through, IsSettledByPhase}, Clear.greatest_through, Promises.AlwaysFinishesThrough, Question.greatest_execution, Response.Response}
+use Rattle.cl_resp.specs.{Asked.{Asked, least_response, AnswersWithin, IsLeastResponse}, ByPhase.{demand_by, asked_by_phase, response_by_phase, response_through, IsSettledByPhase}, Clear.greatest_through, Promises.AlwaysFinishesThrough, Response.Response}
 use Rattle.cl_resp.proofs.{LeastAnswers.found_is_least, AnsweredJobs.{whole_jobs_finish, parts_finish}, LeastRound.asked_comes_round}
 
 -- ---- a response by phases is a least response

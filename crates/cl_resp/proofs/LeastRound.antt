@@ -8,12 +8,12 @@ use Rattle.std.proofs.lemmas.Int.{ints}
 use Rattle.std.proofs.lemmas.List.{get_or_past}
 use Rattle.std.proofs.lemmas.List.Sums.{sum_by-cons}
 use Rattle.cl_model.specs.{declared.stimulus.StimulusKind.StimulusKind, Timing.greatest_jitter}
-use Rattle.cl_runs.specs.{Pattern.IsPattern, TaskTiming.{Timing, System, no_timing, timing_at, IsSound}, Priorities.tasks_above}
+use Rattle.cl_runs.specs.{Pattern.IsPattern, TaskTiming.{Timing, System, no_timing, timing_at, IsSound}, Priorities.tasks_above, ExecutionTimes.greatest_execution}
 use Rattle.cl_stim.specs.{declared.phase.Phase.Phase, Phase.{IsPhase, phase_of}}
 use Rattle.cl_stim.proofs.PatternPhases.{phase_is}
 use Rattle.cl_cycle.specs.{Counts.{arrivals_from, each_moment}, Cycles.{is_one_of, in_phase_above, cycle_of}, Promises.ComesRound as TaskComesRound}
 use Rattle.cl_cycle.proofs.{CountedTicks.comes_round as arrivals_come_round, CycleMembers.{cycle_positive, own_divides, members_come_round}}
-use Rattle.cl_resp.specs.{Asked.ComesRound, ByPhase.{phase_if, released_by, time_by, demand_by, asked_by_phase}, Question.{greatest_execution, lower_block_of}}
+use Rattle.cl_resp.specs.{Asked.ComesRound, ByPhase.{phase_if, released_by, time_by, demand_by, asked_by_phase}, Question.lower_block_of}
 
 -- what each adds is the same, and so is the sum
 same_sums : {X : Type 0} (f g : X → ℕ) (xs : List X) → ((x : X) → f x ≡ g x) → sum_by f xs ≡ sum_by g xs

@@ -1,4 +1,3 @@
-pub mod StimulusKinds
 pub mod Windows
 pub mod WhatIsKept
 pub mod Descending

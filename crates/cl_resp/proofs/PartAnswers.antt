@@ -5,10 +5,10 @@ use Rattle.std.specs.Prelude.{sum_by, unwrap_or, IfSome}
 use Rattle.std.proofs.lemmas.List.{drop-map}
 use Rattle.std.proofs.lemmas.List.Sums.{sum_by_more_le, sum_by-take-drop}
 use Rattle.cl_model.specs.{declared.{model.SystemModel.SystemModel, task.RunnableDef.RunnableDef}, ByNumber.task_at, Validity.IsValid}
-use Rattle.cl_runs.specs.{TaskTiming.{TimeRange, System, timing_at}, SystemOf.{range_of, system_of}}
+use Rattle.cl_runs.specs.{TaskTiming.{TimeRange, System, timing_at}, SystemOf.{range_of, system_of}, ExecutionTimes.greatest_execution}
 use Rattle.cl_runs.proofs.ModelSystem.{ranges_are, count_is, system_sound}
-use Rattle.cl_resp.specs.{declared.phased.PhasedQuestion.PhasedQuestion, Asked.{suffices, least_response, IsLeastResponse}, ByPhase.{asked_by_phase, response_through, IsSettledByPhase}, Clear.{greatest_through, greatest_behind}, Promises.AlwaysFinishesThrough, Question.greatest_execution}
-use Rattle.cl_resp.specs.{Question.tight_question_of, Response.busy_window, Inner.Phased.{asked_of, IsPhasedQuestionOf, IsPhasedInRange, ServesAnywhere}}
+use Rattle.cl_resp.specs.{declared.phased.PhasedQuestion.PhasedQuestion, Asked.{suffices, least_response, IsLeastResponse}, ByPhase.{asked_by_phase, response_through, IsSettledByPhase}, Clear.{greatest_through, greatest_behind}, Promises.AlwaysFinishesThrough, Question.tight_question_of}
+use Rattle.cl_resp.specs.{Response.busy_window, Inner.Phased.{asked_of, IsPhasedQuestionOf, IsPhasedInRange, ServesAnywhere}}
 use Rattle.cl_resp.proofs.{LeastAnswers.{found_is_least, least_is_found, answers_later, test_from_answers}, LeastParts.{settled_least, settled_through}, LeastRound.asked_comes_round, PhasedAnswers.{same_asked, serves_if, part_less, for_part, asks_part, part_in_range, part_answer}}
 use Rattle.cl_resp.proofs.{PhasedSums.sum_mapped, LeastBehind.{through_and_behind, part_leaves_room}}
 

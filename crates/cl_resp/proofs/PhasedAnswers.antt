@@ -10,13 +10,13 @@ use Rattle.std.proofs.lemmas.List.Elements.{All-head, All-tail, All-filter}
 use Rattle.std.proofs.lemmas.List.FromFn.{get_or-range_with_len, length-range_with_len}
 use Rattle.std.proofs.lemmas.List.Sums.{sum_by-cons, sum_by-take-le, get_or-le-sum_by}
 use Rattle.cl_model.specs.{declared.{limits.TheConstants.MOST_TICKS, model.SystemModel.SystemModel, stimulus.StimulusKind.StimulusKind}, ByNumber.task_at, Timing.greatest_jitter, Validity.IsValid}
-use Rattle.cl_runs.specs.{Pattern.IsPattern, TaskTiming.{TimeRange, Timing, System, timing_at, no_range, IsSound}, SystemOf.{range_of, system_of}, Responses.AlwaysFinishesWithin, Priorities.{is_above, tasks_above}}
+use Rattle.cl_runs.specs.{Pattern.IsPattern, TaskTiming.{TimeRange, Timing, System, timing_at, no_range, IsSound}, SystemOf.{range_of, system_of}, Responses.AlwaysFinishesWithin, Priorities.{is_above, tasks_above}, ExecutionTimes.greatest_execution}
 use Rattle.cl_runs.proofs.ModelSystem.{timing_is, count_is, system_sound}
 use Rattle.cl_stim.specs.{declared.phase.Phase.Phase, Phase.phase_of, Releases.most_releases}
 use Rattle.cl_cycle.specs.Cycles.{is_one_of, in_phase_above}
-use Rattle.cl_resp.specs.{declared.{question.{Above.Above, Question.Question, Block.TheVariants.OfLower}, phased.PhasedQuestion.PhasedQuestion}, Clear.greatest_through, Question.{greatest_execution, taken_by, tight_question_of}, Response.{demand, busy_window}, Asked.least_response}
-use Rattle.cl_resp.specs.{ByPhase.{phase_if, released_by, time_by, demand_by, asked_by_phase, response_by_phase, response_through, IsSettledByPhase}, Inner.Phased.{asked_of, IsPhasedQuestionOf, IsPhasedInRange, ServesAnywhere}}
 use Rattle.cl_cycle.proofs.CountedMost.{most_arrivals as at_most}
+use Rattle.cl_resp.specs.{declared.{question.{Above.Above, Question.Question, Block.TheVariants.OfLower}, phased.PhasedQuestion.PhasedQuestion}, Clear.greatest_through, Question.{taken_by, tight_question_of}, Response.{demand, busy_window}, Asked.least_response, ByPhase.phase_if}
+use Rattle.cl_resp.specs.{ByPhase.{released_by, time_by, demand_by, asked_by_phase, response_by_phase, response_through, IsSettledByPhase}, Inner.Phased.{asked_of, IsPhasedQuestionOf, IsPhasedInRange, ServesAnywhere}}
 use Rattle.cl_resp.proofs.{LeastParts.{settled_timely as timely, execution_in_response as execution}, Questions.questions_in_range, Windows.window_is_least, PhasedSums.{sum_mapped, takes, takes_is, above_by_number}}
 
 -- ---- what is asked

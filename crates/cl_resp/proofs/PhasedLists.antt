@@ -6,10 +6,10 @@ use Rattle.std.proofs.lemmas.List.Elements.{All-filter}
 use Rattle.cl_model.specs.{declared.model.SystemModel.SystemModel, ByNumber.{task_at, core_of, jitter_of, time_of, tasks_of_core}, Timing.greatest_jitter}
 use Rattle.cl_model.specs.ByNumber as tasks
 use Rattle.cl_model.proofs.{AddedTasks.maps_agree_on, CoreTasks.below_known, MovedTasks.filter_range}
-use Rattle.cl_runs.specs.{TaskTiming.{Timing, timing_at}, SystemOf.{timing_of, system_of}, Priorities.{is_above, tasks_above}}
+use Rattle.cl_runs.specs.{TaskTiming.{Timing, timing_at}, SystemOf.{timing_of, system_of}, Priorities.{is_above, tasks_above}, ExecutionTimes.greatest_execution}
 use Rattle.cl_runs.proofs.ModelSystem.{timing_is, count_is}
 use Rattle.cl_cycle.specs.Counts.{arrivals_of}
-use Rattle.cl_resp.specs.{declared.{question.Above.Above, phased.InPhase.InPhase}, Question.{greatest_execution, taken_by}, Inner.Counted.{counts, counted_above, by_phase_of, in_phase_with, beside_with}}
+use Rattle.cl_resp.specs.{declared.{question.Above.Above, phased.InPhase.InPhase}, Question.taken_by, Inner.Counted.{counts, counted_above, by_phase_of, in_phase_with, beside_with}}
 use Rattle.cl_resp.proofs.{Filters.filter-both, Questions.{is_higher, above_at, numbers_above, time_is, taken_is}}
 
 -- whether another task has a higher priority and is in phase, or isn't, by number

@@ -8,14 +8,15 @@ use Rattle.std.proofs.lemmas.List.Elements.{All-map, All-filter, filter_passes}
 use Rattle.cl_model.specs.{declared.{limits.TheConstants.{MOST_TICKS, MOST_RUNNABLES, MOST_TASKS_OF_CORE}, model.SystemModel.SystemModel, stimulus.StimulusKind.{StimulusKind, TheVariants.{Periodic, Sporadic, Burst}}}, ByNumber.{task_at, stimulus_of, deadline_of, jitter_of, time_of}}
 use Rattle.cl_model.specs.{Ranges.IsKindInRange, Timing.{IsKindOrdered, greatest_jitter}, Validity.IsValid}
 use Rattle.cl_model.proofs.ValidTasks.{kind_in_range, kind_ordered, early_enough, released_before, little_time}
-use Rattle.cl_runs.specs.{TaskTiming.{Timing, System, timing_at, IsSound}, SystemOf.{timing_of, system_of}, Priorities.tasks_above}
+use Rattle.cl_runs.specs.{TaskTiming.{Timing, System, timing_at, IsSound}, SystemOf.{timing_of, system_of}, Priorities.tasks_above, ExecutionTimes.greatest_execution}
 use Rattle.cl_runs.proofs.ModelSystem.{timing_is, count_is, system_sound}
 use Rattle.cl_stim.specs.{declared.phase.Phase.Phase, Phase.{IsPhaseInRange, phase_of}}
+use Rattle.cl_stim.proofs.StimulusKinds.{least_few}
 use Rattle.cl_cycle.specs.{Counts.{arrivals_of, each_moment}, Cycles.{is_one_of, in_phase_above, cycle_of}, Promises.ComesRound}
-use Rattle.cl_resp.specs.{declared.{question.{Above.Above, Block.TheVariants.OfLower, Question.Question}, phased.{InPhase.InPhase, PhasedQuestion.PhasedQuestion}}, Question.{greatest_execution, lower_block_of, taken_by, tight_question_of, IsAboveInRange, IsQuestionInRange}}
-use Rattle.cl_resp.specs.{Response.demand, ByPhase.{time_by, demand_by}, Inner.{Phased.{time_in_phase, IsInPhaseInRange, IsPhasedInRange, IsPhasedQuestionOf}, Counted.{counts, counted_above, by_phase_of, in_phase_with, beside_with}}}
-use Rattle.cl_resp.proofs.{Filters.shorter, PhasedLists.{numbers_are, numbers_known}, PhasedSums.{takes, both_sums, above_by_number, all_stand_beside}, Questions.{time_is, questions_in_range}, StimulusKinds.least_few}
 use Rattle.cl_cycle.proofs.{CycleMembers.{cycle_positive as some, own_divides as own, members_come_round as in_phase}, CycleLengths.cycle_short as short}
+use Rattle.cl_resp.specs.{declared.{question.{Above.Above, Block.TheVariants.OfLower, Question.Question}, phased.{InPhase.InPhase, PhasedQuestion.PhasedQuestion}}, Question.{lower_block_of, taken_by, tight_question_of, IsAboveInRange, IsQuestionInRange}, Response.demand, ByPhase.time_by}
+use Rattle.cl_resp.specs.{ByPhase.demand_by, Inner.{Phased.{time_in_phase, IsInPhaseInRange, IsPhasedInRange, IsPhasedQuestionOf}, Counted.{counts, counted_above, by_phase_of, in_phase_with, beside_with}}}
+use Rattle.cl_resp.proofs.{Filters.shorter, PhasedLists.{numbers_are, numbers_known}, PhasedSums.{takes, both_sums, above_by_number, all_stand_beside}, Questions.{time_is, questions_in_range}}
 
 -- a question with these parts
 abbrev pub phased_with : Phase → (cycle : ℕ) → List InPhase → Question → PhasedQuestion

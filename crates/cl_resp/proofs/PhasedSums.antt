@@ -9,11 +9,12 @@ use Rattle.std.proofs.lemmas.List.Sums.{sum-map}
 use Rattle.std.proofs.lemmas.Simd.{map-map}
 use Rattle.cl_model.specs.{declared.stimulus.StimulusKind.StimulusKind, Timing.greatest_jitter}
 use Rattle.cl_model.proofs.AddedTasks.{maps_agree_on}
-use Rattle.cl_runs.specs.{TaskTiming.{Timing, System, timing_at, no_timing}, Priorities.{is_above, tasks_above}}
+use Rattle.cl_runs.specs.{TaskTiming.{Timing, System, timing_at, no_timing}, Priorities.{is_above, tasks_above}, ExecutionTimes.greatest_execution}
 use Rattle.cl_stim.specs.{declared.phase.Phase.Phase, AnyStimulus.kind_of, Phase.phase_of, Releases.most_releases}
+use Rattle.cl_stim.proofs.StimulusKinds.{kind_of-as_stimulus}
 use Rattle.cl_cycle.specs.{Counts.{arrivals_from, arrivals_of, each_moment}, Cycles.{is_one_of, in_phase_above, cycle_of}, Promises.ComesRound}
-use Rattle.cl_resp.specs.{declared.{question.Above.Above, phased.InPhase.InPhase}, Question.{greatest_execution, taken_by, tight_question_of}, ByPhase.{phase_if, released_by, time_by}, Inner.{Phased.time_in_phase, Counted.{counts, counted_above, by_phase_of, in_phase_with, beside_with}}}
-use Rattle.cl_resp.proofs.{Filters.{by_number, filter-map, same_pass}, StimulusKinds.kind_of-as_stimulus}
+use Rattle.cl_resp.specs.{declared.{question.Above.Above, phased.InPhase.InPhase}, Question.{taken_by, tight_question_of}, ByPhase.{phase_if, released_by, time_by}, Inner.{Phased.time_in_phase, Counted.{counts, counted_above, by_phase_of, in_phase_with, beside_with}}}
+use Rattle.cl_resp.proofs.Filters.{by_number, filter-map, same_pass}
 
 -- the sum over a mapped list
 pub sum_mapped : {X Y : Type 0} (f : Y → ℕ) (g : X → Y) (xs : List X) → sum_by f (map g xs) ≡ sum_by (λ x. f (g x)) xs

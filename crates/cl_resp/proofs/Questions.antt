@@ -12,12 +12,13 @@ use Rattle.cl_model.specs.{declared.{limits.TheConstants.{MOST_TICKS, MOST_DISTA
 use Rattle.cl_model.specs.{Timing.greatest_jitter, Validity.IsValid, Holds.{greatest_by, runnable_hold, task_hold}}
 use Rattle.cl_model.specs.ByNumber as tasks
 use Rattle.cl_model.proofs.{ValidTasks.{kind_in_range, early_enough, released_before, some_time, little_time, runnables_in_range}, CoreTasks.{below_known, few_tasks, few_distances}, ListFacts.maps_agree, Greatest.{greatest_within, greatest_agrees, greatest_mapped}}
-use Rattle.cl_runs.specs.{TaskTiming.{TimeRange, Timing, timing_at}, SystemOf.{range_of, timing_of, system_of}, Priorities.is_above}
+use Rattle.cl_runs.specs.{TaskTiming.{TimeRange, Timing, timing_at}, SystemOf.{range_of, timing_of, system_of}, Priorities.is_above, ExecutionTimes.greatest_execution}
 use Rattle.cl_runs.proofs.ModelSystem.{timing_is}
 use Rattle.cl_stim.specs.AnyStimulus.{as_stimulus}
-use Rattle.cl_resp.specs.{declared.question.{Block.{Block, TheVariants.{OfLower, WithOwn}}, Above.Above, Question.Question}, Question.{greatest_execution, hold_of, longest_hold, block_of, lower_block_of, taken_by, question_of, tight_question_of, either_question, block_by, may_hold_beside}}
-use Rattle.cl_resp.specs.Question.{IsAboveInRange, IsQuestionInRange}
-use Rattle.cl_resp.proofs.{StimulusKinds.{kind_of-as_stimulus, least_few}, Filters.{by_number, filter-map, filter-both, fewer}}
+use Rattle.cl_stim.proofs.StimulusKinds.{kind_of-as_stimulus, least_few}
+use Rattle.cl_resp.specs.{declared.question.{Block.{Block, TheVariants.{OfLower, WithOwn}}, Above.Above, Question.Question}, Question.{hold_of, longest_hold, block_of, lower_block_of, taken_by, question_of, tight_question_of, either_question, block_by, may_hold_beside, IsAboveInRange}}
+use Rattle.cl_resp.specs.Question.{IsQuestionInRange}
+use Rattle.cl_resp.proofs.Filters.{by_number, filter-map, filter-both, fewer}
 
 -- whether another task has a higher priority, by number
 abbrev pub is_higher : SystemModel → (task other : ℕ) → Bool

@@ -7,8 +7,8 @@ use Rattle.std.proofs.lemmas.Option.{same_Some}
 use Rattle.std.proofs.lemmas.List.Elements.{All-head}
 use Rattle.std.proofs.lemmas.List.Sums.{sum_by-cons}
 use Rattle.cl_model.specs.Timing.{greatest_jitter}
-use Rattle.cl_runs.specs.TaskTiming.{TimeRange, System, timing_at, IsSound}
-use Rattle.cl_resp.specs.{declared.question.Question.Question, Question.{greatest_execution, question_of, tight_question_of, AsksEnough}, Response.{Response, demand, busy_window, response_to, IsWindow, IsSettled, IsTightlySettled}}
+use Rattle.cl_runs.specs.{TaskTiming.{TimeRange, System, timing_at, IsSound}, ExecutionTimes.greatest_execution}
+use Rattle.cl_resp.specs.{declared.question.Question.Question, Question.{question_of, tight_question_of, AsksEnough}, Response.{Response, demand, busy_window, response_to, IsWindow, IsSettled, IsTightlySettled}}
 use Rattle.cl_resp.proofs.{EnoughAsked.{asks_plain, asks_tight}, Windows.window_is_least}
 
 -- the answer of a window, and what an answer says of the window

@@ -7,11 +7,11 @@ use Rattle.std.specs.Option.{option_map}
 use Rattle.std.proofs.lemmas.Bool.{true≢false}
 use Rattle.std.proofs.lemmas.Int.{ints}
 use Rattle.cl_model.specs.Timing.{greatest_jitter}
-use Rattle.cl_runs.specs.{TaskTiming.{System, timing_at}, Priorities.tasks_above}
+use Rattle.cl_runs.specs.{TaskTiming.{System, timing_at}, Priorities.tasks_above, ExecutionTimes.greatest_execution}
 use Rattle.cl_stim.specs.{declared.phase.Phase.Phase, Phase.phase_of}
 use Rattle.cl_cycle.specs.Cycles.{is_one_of, in_phase_above}
-use Rattle.cl_resp.specs.{declared.{phased.{InPhase.InPhase, PhasedQuestion.PhasedQuestion}, worst.WorstWindow.WorstWindow}, Asked.{Asked, suffices, least_response}, ByPhase.{asked_by_phase, response_by_phase}, Question.greatest_execution, Response.Response, Worst.{less_than, within_of}}
-use Rattle.cl_resp.specs.{Worst.{IsUnanswered, IsFirstUnanswered, IsLeastUnanswered, PassesOrZero, is_released_in, IsCandidate, IsWorstBy, IsWorstWindowOf}, Inner.{Counted.{by_phase_of, in_phase_with}, Phased.{asked_of, IsPhasedQuestionOf}, Worst.{IsCandidateOf, IsLeastAfter}}}
+use Rattle.cl_resp.specs.{declared.{phased.{InPhase.InPhase, PhasedQuestion.PhasedQuestion}, worst.WorstWindow.WorstWindow}, Asked.{Asked, suffices, least_response}, ByPhase.{asked_by_phase, response_by_phase}, Response.Response, Worst.{less_than, within_of, IsUnanswered}}
+use Rattle.cl_resp.specs.{Worst.{IsFirstUnanswered, IsLeastUnanswered, PassesOrZero, is_released_in, IsCandidate, IsWorstBy, IsWorstWindowOf}, Inner.{Counted.{by_phase_of, in_phase_with}, Phased.{asked_of, IsPhasedQuestionOf}, Worst.{IsCandidateOf, IsLeastAfter}}}
 use Rattle.cl_resp.proofs.WorstCandidates.{passes_mapped}
 
 -- ---- there is one

@@ -5,12 +5,12 @@ use Rattle.std.specs.Prelude.{Option, Some, None, is_some, unwrap_or}
 use Rattle.std.specs.Option.{option_map}
 use Rattle.std.proofs.lemmas.Bool.{true≢false}
 use Rattle.cl_model.specs.{declared.{model.SystemModel.SystemModel, stimulus.StimulusKind.{StimulusKind, TheVariants.{Periodic, Sporadic, Burst}}}, Timing.greatest_jitter, Validity.IsValid}
-use Rattle.cl_runs.specs.{SystemOf.system_of, TaskTiming.{System, timing_at, IsSound}}
+use Rattle.cl_runs.specs.{SystemOf.system_of, TaskTiming.{System, timing_at, IsSound}, ExecutionTimes.greatest_execution}
 use Rattle.cl_runs.proofs.ModelSystem.{count_is, system_sound}
 use Rattle.cl_stim.specs.{declared.phase.Phase.Phase, Phase.phase_of}
 use Rattle.cl_cycle.specs.Counts.{each_moment}
-use Rattle.cl_resp.specs.{declared.phased.PhasedQuestion.PhasedQuestion, Asked.{Asked, suffices, least_response, ComesRound}, ByPhase.{asked_by_phase, response_by_phase}, Question.greatest_execution, Response.Response, Worst.{less_than, within_of}, Inner.Phased.asked_of}
-use Rattle.cl_resp.specs.Inner.{Phased.{IsPhasedQuestionOf, IsPhasedInRange}, Worst.AreCandidatesAnswered}
+use Rattle.cl_resp.specs.{declared.phased.PhasedQuestion.PhasedQuestion, Asked.{Asked, suffices, least_response, ComesRound}, ByPhase.{asked_by_phase, response_by_phase}, Response.Response, Worst.{less_than, within_of}, Inner.Phased.{asked_of, IsPhasedQuestionOf, IsPhasedInRange}}
+use Rattle.cl_resp.specs.Inner.Worst.{AreCandidatesAnswered}
 use Rattle.cl_resp.proofs.{LeastAnswers.{answers_from_test, found_is_least, none_answers}, LeastRound.asked_comes_round, SearchedArrivals.some_response, WorstMoments.candidates_suffice, WorstTasks.{same_asked, within_least}}
 
 module _ (asked : Asked) (comes : ComesRound asked) where

@@ -2,10 +2,10 @@
 use Rattle.std.specs.Prelude.{◌≡◌, ℕ, ℤ, pos, ◌-ℤ◌, ◌+◌, ◌-◌, ◌*◌, ◌<◌, length, Bool, true, false, sum_by, Option, Some, None}
 use Rattle.std.specs.Option.{option_map}
 use Rattle.cl_model.specs.{declared.stimulus.StimulusKind.StimulusKind, Timing.greatest_jitter}
-use Rattle.cl_runs.specs.{TaskTiming.{System, timing_at}, Priorities.tasks_above}
+use Rattle.cl_runs.specs.{TaskTiming.{System, timing_at}, Priorities.tasks_above, ExecutionTimes.greatest_execution}
 use Rattle.cl_stim.specs.{declared.phase.Phase.Phase, Phase.phase_of, Releases.most_releases}
 use Rattle.cl_cycle.specs.{Counts.{arrivals_from, arrivals_of}, Cycles.{is_one_of, in_phase_above, cycle_of}}
-use Rattle.cl_resp.specs.{Question.{greatest_execution, lower_block_of}, Response.Response, Asked.{Asked, least_response}, Clear.greatest_through}
+use Rattle.cl_resp.specs.{Question.lower_block_of, Response.Response, Asked.{Asked, least_response}, Clear.greatest_through}
 
 -- the phase by which a task counts: its own if it is in phase, else none
 abbrev pub phase_if : (in_phase : Bool) → StimulusKind → Option Phase

@@ -1,9 +1,9 @@
 -- Clear moments of a task in a run, where the window of a job begins, and what a window of the run
 -- holds.
 use Rattle.std.specs.Prelude.{◌≡◌, ℕ, suc, ◌+◌, ◌*◌, ◌<◌, ◌≤◌, true, cond, nat_lt, List, length, take, drop, sum, sum_by}
-use Rattle.cl_runs.specs.{TaskTiming.{TimeRange, Timing, System, timing_at}, declared.job.Job.Job, Table.job_at, Run.{Run, jobs_of, executed}, Moments.Finishes, Priorities.{is_above, tasks_above}}
+use Rattle.cl_runs.specs.{TaskTiming.{TimeRange, Timing, System, timing_at}, declared.job.Job.Job, Table.job_at, Run.{Run, jobs_of, executed}, Moments.Finishes, Priorities.{is_above, tasks_above}, ExecutionTimes.greatest_execution}
 use Rattle.cl_stim.specs.Releases.{releases_in}
-use Rattle.cl_resp.specs.Question.{greatest_execution, lower_block_of}
+use Rattle.cl_resp.specs.Question.{lower_block_of}
 
 -- the total time of the jobs that are released before a moment
 unfoldable pub released_before : List Job → (moment : ℕ) → ℕ

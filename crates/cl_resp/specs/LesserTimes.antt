@@ -1,8 +1,8 @@
 -- Systems in which a task, and what it waits for, takes less time.
 use Rattle.std.specs.Prelude.{◌≡◌, ℕ, ◌≤◌, true}
-use Rattle.cl_runs.specs.{TaskTiming.{System, timing_at}, Priorities.is_above}
+use Rattle.cl_runs.specs.{TaskTiming.{System, timing_at}, Priorities.is_above, ExecutionTimes.greatest_execution}
 use Rattle.cl_cycle.specs.DifferingRunnables.{DifferInRunnables}
-use Rattle.cl_resp.specs.Question.{greatest_execution, lower_block_of}
+use Rattle.cl_resp.specs.Question.{lower_block_of}
 
 -- two systems differ in runnables alone, and of these a task, what blocks it and each task above it take at most as long
 -- in one as in the other

@@ -1,14 +1,10 @@
 -- The question of a task: what its response depends on.
 -- Source: Audsley et al. 1993, with release jitter, and with blocking by non-preemptive regions.
-use Rattle.std.specs.Prelude.{◌≡◌, ℕ, ◌<◌, ◌≤◌, ◌*◌, ◌+◌, ◌-◌, Bool, cond, nat_le, nat_lt, map, filter, length, sum_by, All}
+use Rattle.std.specs.Prelude.{◌≡◌, ℕ, ◌<◌, ◌≤◌, ◌*◌, ◌+◌, ◌-◌, Bool, cond, nat_le, nat_lt, map, filter, length, All}
 use Rattle.cl_model.specs.{declared.limits.TheConstants.{MOST_TICKS, MOST_RUNNABLES, MOST_DISTANCES, MOST_TASKS_OF_CORE}, Timing.{least_distance, greatest_jitter}, Holds.greatest_by}
-use Rattle.cl_runs.specs.{TaskTiming.{TimeRange, Timing, System}, Priorities.{is_above, may_block, is_below}}
+use Rattle.cl_runs.specs.{TaskTiming.{TimeRange, Timing, System}, Priorities.{is_above, may_block, is_below}, ExecutionTimes.greatest_execution}
 use Rattle.cl_stim.specs.AnyStimulus.{kind_of, as_stimulus}
 use Rattle.cl_resp.specs.declared.question.{Above.Above, Block.{Block, TheVariants.{OfLower, WithOwn}}, Question.Question}
-
--- the greatest execution time of a job of a task
-unfoldable pub greatest_execution : Timing → ℕ
-greatest_execution task = sum_by (λ (range : TimeRange). range.greatest) task.ranges
 
 -- how long a runnable that has begun may hold its core: its greatest time without its first tick, where it is whole
 abbrev pub hold_of : TimeRange → ℕ

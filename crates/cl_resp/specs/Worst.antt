@@ -3,10 +3,10 @@ use Rattle.std.specs.Prelude.{◌≡◌, ℕ, ℤ, pos, negsuc, ◌+ℤ◌, ◌-
 use Rattle.std.specs.List.{list_any}
 use Rattle.std.specs.Option.{option_map}
 use Rattle.cl_model.specs.Timing.{greatest_jitter}
-use Rattle.cl_runs.specs.{TaskTiming.{System, timing_at}, Priorities.tasks_above}
+use Rattle.cl_runs.specs.{TaskTiming.{System, timing_at}, Priorities.tasks_above, ExecutionTimes.greatest_execution}
 use Rattle.cl_stim.specs.{declared.phase.Phase.Phase, Phase.{IsArrivalOf, phase_of, arrives_at}}
 use Rattle.cl_cycle.specs.{Counts.arrivals_of, Cycles.{is_one_of, in_phase_above}}
-use Rattle.cl_resp.specs.{declared.worst.WorstWindow.WorstWindow, Asked.{Asked, MayBegin}, ByPhase.{asked_by_phase, response_by_phase}, Question.greatest_execution, Response.Response}
+use Rattle.cl_resp.specs.{declared.worst.WorstWindow.WorstWindow, Asked.{Asked, MayBegin}, ByPhase.{asked_by_phase, response_by_phase}, Response.Response}
 
 -- ---- within how many ticks not all is answered
 

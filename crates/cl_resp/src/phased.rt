@@ -1,9 +1,9 @@
 //! The question of a task by phases. Times are in ticks, and moments may lie before 0.
 ghost use Rattle.std.specs.Prelude.{◌≡◌, ◌<◌, ◌≤◌, ◌&&◌, nat_lt, length, IfOk, []};
 ghost use Rattle.cl_model.specs.{ByNumber.task_at, Validity.IsValid};
-ghost use Rattle.cl_runs.specs.{SystemOf.system_of, TaskTiming.timing_at};
+ghost use Rattle.cl_runs.specs.{SystemOf.system_of, TaskTiming.timing_at, ExecutionTimes.greatest_execution};
 ghost use Rattle.cl_cycle.specs.{Cycles.in_phase_above, Promises.IsCycleOf};
-ghost use Rattle.cl_resp.specs.{Question.{greatest_execution, tight_question_of}, Inner.{Phased.{IsPhasedInRange, IsPhasedQuestionOf}, Counted.{counts, in_phase_with, beside_with}}};
+ghost use Rattle.cl_resp.specs.{Question.tight_question_of, Inner.{Phased.{IsPhasedInRange, IsPhasedQuestionOf}, Counted.{counts, in_phase_with, beside_with}}};
 
 use crate::asking::block_of;
 use crate::question::{Above, Block, Question};

@@ -1,5 +1,6 @@
 pub mod Pattern
 pub mod TaskTiming
+pub mod ExecutionTimes
 pub mod Priorities
 pub mod Arrivals
 pub mod Table

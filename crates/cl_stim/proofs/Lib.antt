@@ -10,3 +10,4 @@ pub mod ArrivalTests
 pub mod Neighbours
 pub mod PatternPhases
 pub mod RunPhases
+pub mod StimulusKinds

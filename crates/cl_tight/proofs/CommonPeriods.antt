@@ -13,8 +13,8 @@ use Rattle.cl_runs.specs.{TaskTiming.{System, IsSound}, SystemOf.system_of}
 use Rattle.cl_runs.proofs.ModelSystem.{system_sound}
 use Rattle.cl_stim.specs.Multiples.{common_multiple}
 use Rattle.cl_stim.proofs.Multiples.{common_positive, common_is_least}
-use Rattle.cl_bound.specs.SettledChains.{IsGroupOfTask}
-use Rattle.cl_bound.proofs.ModelGroups.{group_of_system}
+use Rattle.cl_hop.specs.Timings.{IsGroupOfTask}
+use Rattle.cl_hop.proofs.ModelGroups.{group_of_system}
 use Rattle.cl_exact.specs.{TimedPeriodic.is_timed_periodic_chain, Hyperperiod.{period_of, hyper_limit, IsMultipleOfPeriods, IsHyperperiod, IsWithinLimit}}
 use Rattle.cl_exact.proofs.ExactOnce.{hyperperiod_once}
 use Rattle.cl_tight.specs.TightFindings.{common_period, has_exact_bounds}

@@ -2,12 +2,11 @@
 -- no later than the deadline.
 use Rattle.std.proofs.Common.{◌≡◌, ℕ, ◌<◌, ◌≤◌, length, refl, arith}
 use Rattle.cl_model.specs.declared.task.AccessKind.{AccessKind, TheVariants.{Explicit, Implicit, Timed}}
-use Rattle.cl_runs.specs.TaskTiming.{Timing, System, timing_at, IsSound}
+use Rattle.cl_runs.specs.{TaskTiming.{Timing, System, timing_at, IsSound}, ExecutionTimes.greatest_execution}
 use Rattle.cl_comm.specs.{declared.spot.Spot.Spot, Windows.{spot_at, window_of, window_at}}
 use Rattle.cl_lead.specs.Leads.{before_read, lead_at}
 use Rattle.cl_lead.proofs.LeadTimes.{lead_holds, lead_by_deadline}
-use Rattle.cl_resp.specs.Question.{greatest_execution}
-use Rattle.cl_bound.proofs.GroupWindows.{spot_fits}
+use Rattle.cl_hop.proofs.GroupWindows.{spot_fits}
 
 -- a window reads after the least times before it
 read_after : (access : AccessKind) (spot : Spot) (response : ℕ) → (window_of access spot response).rlo ≡ before_read access spot.before

@@ -12,10 +12,10 @@ use Rattle.std.proofs.lemmas.Nat.Gcd.{le_of_dvd}
 use Rattle.cl_model.specs.{declared.group.Group.Group, Groups.group_at, Kinds.is_timed, Timing.greatest_distance}
 use Rattle.cl_runs.specs.TaskTiming.{System, timing_at}
 use Rattle.cl_stim.specs.{declared.phase.Phase.Phase, Phase.{arrivals_in, phase_of}, Multiples.hyperperiod_of}
-use Rattle.cl_exact.specs.Hyperperiod.{period_of}
-use Rattle.cl_bound.specs.{Hops.{saves, lag}, declared.group_timing.GroupTiming.GroupTiming}
-use Rattle.cl_phase.specs.{declared.{pace.{TheConstants.MOST_ARRIVALS, Pace.TheVariants.Kept}, stop.Stop.Stop}, Kept.{come_round_soon, phase_beside, kept_with, pace_with}, Walks.pace_at, TightBounds.{lag_to_next, stops_beside, stops_of}}
 use Rattle.cl_stim.proofs.Hyperperiods.{HasPeriod, Divides, hyperperiod_least}
+use Rattle.cl_hop.specs.{Hops.{saves, lag}, declared.group_timing.GroupTiming.GroupTiming}
+use Rattle.cl_exact.specs.Hyperperiod.{period_of}
+use Rattle.cl_phase.specs.{declared.{pace.{TheConstants.MOST_ARRIVALS, Pace.TheVariants.Kept}, stop.Stop.Stop}, Kept.{come_round_soon, phase_beside, kept_with, pace_with}, Walks.pace_at, TightBounds.{lag_to_next, stops_beside, stops_of}}
 use Rattle.cl_tight.specs.ExactBounds.{IsTimedTiming}
 use Rattle.cl_tight.proofs.{IdealSteps.{ideal_phase, IsIdealLag}, IdealWalks.IsPeriodicGroup}
 

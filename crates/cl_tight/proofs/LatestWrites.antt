@@ -7,10 +7,10 @@ use Rattle.std.proofs.lemmas.List.Sums.{sum_by-cons}
 use Rattle.cl_model.specs.declared.{group.Group.Group, task.AccessKind.{AccessKind, TheVariants.{Explicit, Implicit, Timed}}}
 use Rattle.cl_runs.specs.{TaskTiming.{TimeRange, Timing, System, timing_at, IsSound}, Table.job_at, Run.{Run, jobs_of}, Legal.IsLegal, Moments.{WritesBy, Writes}}
 use Rattle.cl_comm.specs.{declared.spot.Spot.Spot, Windows.{least_times, spot_at, window_of, window_at}}
+use Rattle.cl_hop.specs.{Hops.group_timing, Timings.IsGroupOfTask}
+use Rattle.cl_hop.proofs.KeptWindows.{timely_keeps}
 use Rattle.cl_resp.specs.{ByPhase.{response_through, IsSettledByPhase}, Clear.greatest_behind}
 use Rattle.cl_resp.proofs.{LeastParts.{settled_timely, settled_through}, LeastBehind.part_leaves_room}
-use Rattle.cl_bound.specs.{Hops.group_timing, SettledChains.IsGroupOfTask}
-use Rattle.cl_bound.proofs.KeptWindows.{timely_keeps}
 use Rattle.cl_tight.specs.TightTimings.{part_response, write_by}
 
 -- ---- it is within the window

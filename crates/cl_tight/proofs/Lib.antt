@@ -23,3 +23,4 @@ pub mod IdealChains
 pub mod PlainWindows
 pub mod FoundNumbers
 pub mod AccessTimes
+pub mod TightLengths

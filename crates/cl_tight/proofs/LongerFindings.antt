@@ -7,11 +7,12 @@ use Rattle.cl_model.specs.{declared.{chain.{ChainDef.ChainDef, LengthKind.TheVar
 use Rattle.cl_model.specs.{Named.index_of, Validity.IsValid}
 use Rattle.cl_runs.specs.{Requirements.{no_requirement, requirement_at, required_chain}, SystemOf.system_of, TaskTiming.{System, IsSound}}
 use Rattle.cl_runs.proofs.ModelSystem.{system_sound}
+use Rattle.cl_hop.specs.{Bounds.Lengths, NoGreater.AreNoGreater}
 use Rattle.cl_resp.specs.LesserTimes.{TakesNoMore}
-use Rattle.cl_bound.specs.{Answers.{answer_at, is_late, NoneIsLate}, Bounds.Lengths, NoGreater.AreNoGreater}
+use Rattle.cl_bound.specs.Answers.{answer_at, is_late, NoneIsLate}
+use Rattle.cl_phase.specs.TightBounds.{tight_bounds}
 use Rattle.cl_analyse.specs.{declared.findings.{ChainAnswer.TheVariants.Bounds, Verdict.TheVariants.{Met, Broken, Unshown}}, ChainAnswers.chain_answer_at, Verdicts.{limited_bound, required_bound, verdict_on, verdict_at, is_met}}
 use Rattle.cl_analyse.proofs.KeptRequirements.{bound_valued}
-use Rattle.cl_phase.specs.TightBounds.{tight_bounds}
 use Rattle.cl_tight.specs.{LongerTimes.{IsNoLonger, DifferInGreatestTimes}, TightAnswers.tight_answers_of, TightFindings.{tight_chain_answers_of, has_exact_bounds, exact_bound, tight_verdict_of, tight_findings_of}, TightTimings.tight_timing}
 use Rattle.cl_tight.proofs.{LongerTimes.{task_timely, timely_too, longer_no_less}, TightChains.{of_tasks, own_bounds, tight_given, tight_where}, TightRequirements.bounded_chain}
 

@@ -10,9 +10,10 @@ use Rattle.cl_model.specs.{declared.{group.Group.Group, task.AccessKind.{AccessK
 use Rattle.cl_runs.specs.TaskTiming.{TimeRange, System, timing_at, IsSound}
 use Rattle.cl_lead.specs.LeastTimes.{HaveSameLeastTimes}
 use Rattle.cl_lead.proofs.SameLeads.{same_lead}
+use Rattle.cl_hop.specs.{NoGreater.{StaysWithin, AreNoGreater}, Timings.IsGroupOfTask}
 use Rattle.cl_resp.specs.{ByPhase.IsSettledByPhase, LesserTimes.TakesNoMore}
 use Rattle.cl_resp.proofs.{AskedLess.{settled_sooner, through_sooner}, LeastBehind.part_leaves_room}
-use Rattle.cl_bound.specs.{declared.answer.TaskAnswer.TheVariants.Late, Answers.{answer_with, answer_at, is_late, response_in, NoneIsLate}, NoGreater.{StaysWithin, AreNoGreater}, SettledChains.IsGroupOfTask}
+use Rattle.cl_bound.specs.{declared.answer.TaskAnswer.TheVariants.Late, Answers.{answer_with, answer_at, is_late, response_in, NoneIsLate}}
 use Rattle.cl_phase.specs.TightBounds.{tight_bounds}
 use Rattle.cl_phase.proofs.{SamePatterns.same_bounds, WiderWalks.tight_within_wider}
 use Rattle.cl_tight.specs.{LongerTimes.IsNoLonger, TightAnswers.{tight_answer_to, tight_answers_of, tight_response}, TightTimings.{part_response, write_by, latest_write, tight_timing}}

@@ -12,14 +12,14 @@ use Rattle.cl_model.specs.{declared.{group.Group.Group, limits.TheConstants.MOST
 use Rattle.cl_model.specs.{Timing.{least_distance, greatest_jitter}, Validity.IsValid}
 use Rattle.cl_runs.specs.{Pattern.first_least, TaskTiming.{System, IsSound, timing_at}, SystemOf.system_of, Chains.last_group}
 use Rattle.cl_runs.proofs.ModelSystem.{system_sound}
+use Rattle.cl_hop.specs.{declared.group_timing.GroupTiming.GroupTiming, Timings.IsGroupOfTask}
+use Rattle.cl_hop.proofs.{AlongChains.last_timing, ModelGroups.group_of_system}
 use Rattle.cl_exact.specs.{declared.limit.TheConstants.MOST_FIRST_JOBS, TimedPeriodic.{are_timed_periodic, is_timed_periodic_chain}, Hyperperiod.{period_of, IsHyperperiod, IsWithinLimit}, ExactLengths.{Witnesses, AreExactLengths}, Ties.AreTied}
 use Rattle.cl_exact.proofs.{ModelBeats.{AreTimedGroups, timed_chain, task_passes}, ModelExact.groups_are_tied}
-use Rattle.cl_bound.specs.{declared.group_timing.GroupTiming.GroupTiming, SettledChains.IsGroupOfTask}
-use Rattle.cl_bound.proofs.{AlongChains.last_timing, ModelGroups.group_of_system}
 use Rattle.cl_phase.specs.{declared.{pace.{TheConstants.MOST_ARRIVALS, Pace.TheVariants.Kept}, stop.Stop.Stop}, Walks.pace_at, TightBounds.{stops_of, span_of, last_write, tight_bounds}}
+use Rattle.cl_phase.proofs.{KeptWalks.{over_all, phases_agree}, StopFacts.{length_stops, stop_lag, stops_step}}
 use Rattle.cl_tight.specs.{TightTimings.tight_timing, ExactBounds.{AreLengthsOf, IsTimedTiming}}
 use Rattle.cl_tight.proofs.{IdealSteps.{ideal_phase, IsIdealLag}, IdealStops.{IsTurning, paces, timed_lag, all_keep_phase}, IdealWalks.AreIdealStops, TimedTimings.timed_by_phases, TightExact.lengths_are_exact}
-use Rattle.cl_phase.proofs.{KeptWalks.{over_all, phases_agree}, StopFacts.{length_stops, stop_lag, stops_step}}
 
 -- a pattern that is periodic has its period, its offset and some jitter
 periodic_parts : (pattern : StimulusKind) → is_periodic pattern ≡ true → pattern ≡ Periodic (least_distance pattern) (first_least pattern) (greatest_jitter pattern)

@@ -5,8 +5,9 @@ use Rattle.cl_runs.specs.{SystemOf.system_of, TaskTiming.timing_at}
 use Rattle.cl_runs.proofs.{ModelSystem.system_sound, PatternFacts.distances_ordered}
 use Rattle.cl_comm.specs.Windows.{spot_at}
 use Rattle.cl_comm.proofs.AccessTimes.{windows_end_by_the_deadline}
-use Rattle.cl_bound.specs.{Answers.{is_late, answer_at}, Hops.{group_timing, IsNear}}
-use Rattle.cl_bound.proofs.{GroupWindows.{spot_fits, spot_in_time}, ModelGroups.{group_of_system, distance_near, window_near}}
+use Rattle.cl_hop.specs.Hops.{group_timing, IsNear}
+use Rattle.cl_hop.proofs.{GroupWindows.{spot_fits, spot_in_time}, ModelGroups.{group_of_system, distance_near, window_near}}
+use Rattle.cl_bound.specs.Answers.{is_late, answer_at}
 use Rattle.cl_tight.specs.{TightAnswers.{tight_answers_of, tight_response}, TightTimings.{earliest_read, latest_write, tight_timing}}
 use Rattle.cl_tight.proofs.{EarliestReads.read_by_deadline, LatestWrites.write_within, TightTasks.tight_task, TightTimings.{holds_execution, by_deadline}}
 

@@ -5,9 +5,11 @@ use Rattle.cl_model.specs.{declared.{group.Group.Group, model.SystemModel.System
 use Rattle.cl_runs.specs.{TaskTiming.{System, IsSound}, SystemOf.system_of}
 use Rattle.cl_runs.proofs.ModelSystem.{system_sound}
 use Rattle.cl_lead.proofs.LeadModels.{reads_after_lead_of_model}
+use Rattle.cl_hop.specs.{Hops.group_timing, declared.group_timing.GroupTiming.GroupTiming, NoGreater.StaysWithin, Timings.{IsGroupOfTask, IsTimingOf, AlwaysKeeps}}
+use Rattle.cl_hop.proofs.{ModelGroups.group_of_system, NoGreater.stays_within}
 use Rattle.cl_resp.specs.ByPhase.{IsSettledByPhase}
-use Rattle.cl_bound.specs.{Answers.{answers_of, answer_at, is_late, response_in}, Bounds.settled_timing, Hops.group_timing, declared.group_timing.GroupTiming.GroupTiming, NoGreater.StaysWithin, SettledChains.IsGroupOfTask, Timings.{IsTimingOf, AlwaysKeeps}}
-use Rattle.cl_bound.proofs.{ModelGroups.group_of_system, NoGreater.stays_within, SettledTasks.settled_task}
+use Rattle.cl_bound.specs.{Answers.{answers_of, answer_at, is_late, response_in}, Bounds.settled_timing}
+use Rattle.cl_bound.proofs.SettledTasks.{settled_task}
 use Rattle.cl_tight.specs.{TightAnswers.{tight_answers_of, tight_response}, TightTimings.tight_timing}
 use Rattle.cl_tight.proofs.{EarliestReads.read_no_earlier, LatestWrites.{write_within, written_by}, TightTasks.{tight_task, tight_of_settled}, TightTimings.{holds_execution, by_deadline}}
 

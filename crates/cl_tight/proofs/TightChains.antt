@@ -7,20 +7,21 @@ use Rattle.cl_model.specs.{declared.{model.SystemModel.SystemModel, group.Group.
 use Rattle.cl_model.proofs.GroupFacts.{groups_at_are, groups_at_some}
 use Rattle.cl_runs.specs.{TaskTiming.System, SystemOf.system_of, Responses.{AlwaysFinishesWithin, IsTimely}}
 use Rattle.cl_runs.proofs.ModelSystem.{count_is, system_sound}
+use Rattle.cl_hop.specs.{Bounds.Lengths, NoGreater.AreNoGreater, Promises.AreSafe, Timings.{IsGroupOfTask, AlwaysKeeps}}
+use Rattle.cl_hop.proofs.{KeptWindows.response_timing_is, ModelGroups.group_of_system}
 use Rattle.cl_resp.specs.{ByPhase.IsSettledByPhase, Response.Response}
-use Rattle.cl_bound.specs.{declared.answer.TaskAnswer.TaskAnswer, Answers.{answer_with, answers_of, answer_at, is_late, response_in, NoneIsLate}, Bounds.{Lengths, settled_timing, bounds_of}, NoGreater.AreNoGreater, Promises.AreSafe, SettledChains.{IsGroupOfTask, IsSettledChain}}
-use Rattle.cl_bound.specs.Timings.{AlwaysKeeps}
-use Rattle.cl_bound.specs.declared.answer.TaskAnswer.TheVariants as answer
-use Rattle.cl_bound.proofs.{KeptWindows.response_timing_is, ModelGroups.group_of_system, SettledChains.settled_sums, SettledTasks.settled_task}
-use Rattle.cl_exact.specs.{TimedPeriodic.is_timed_periodic_chain, ExactLengths.Witnesses}
-use Rattle.cl_tight.specs.{TightAnswers.{tight_answers_of, tight_response}, TightTimings.tight_timing, ExactBounds.AreLengthsOf, TightFindings.{tight_chain_answer_of, tight_chain_answers_of}}
-use Rattle.cl_phase.specs.{TightBounds.tight_bounds, CompleteChains.{HasCompleteChains, AreSomeTicks}}
-use Rattle.cl_tight.proofs.{ModelTight.phased_of_chain, PhasedTimings.{tight_keeps, stays_by_report}, TightTasks.{phased_answer, tight_task, tight_of_settled, tight_group}}
 use Rattle.cl_resp.proofs.LeastParts.{settled_timely}
+use Rattle.cl_bound.specs.{declared.answer.TaskAnswer.TaskAnswer, Answers.{answer_with, answers_of, answer_at, is_late, response_in, NoneIsLate}, Bounds.{settled_timing, bounds_of}, SettledChains.IsSettledChain}
+use Rattle.cl_bound.specs.declared.answer.TaskAnswer.TheVariants as answer
+use Rattle.cl_bound.proofs.{SettledChains.settled_sums, SettledTasks.settled_task}
+use Rattle.cl_exact.specs.{TimedPeriodic.is_timed_periodic_chain, ExactLengths.Witnesses}
+use Rattle.cl_phase.specs.{TightBounds.tight_bounds, CompleteChains.{HasCompleteChains, AreSomeTicks}}
 use Rattle.cl_phase.proofs.{TightSafety.{kept_safe, tight_within_sums}, WiderWalks.tight_within_wider, ChainsComplete.has_complete_chains, SomeTicks.take_time}
 use Rattle.cl_analyse.specs.{declared.findings.{ChainAnswer.{ChainAnswer, TheVariants.{Bounds, Late}}, ExactAnswer.{ExactAnswer, TheVariants.{Exact, NotTimed, ChainLate}}}, ChainAnswers.{first_late, chain_answer, chain_answer_of, chain_answers_of, chain_answer_at, exact_answer_at}}
 use Rattle.cl_analyse.specs.ChainAnswers.{IsTimelyAnswer, IsExactAnswer, AreExactAnswers}
 use Rattle.cl_analyse.proofs.{FirstLate.{settled_groups, none_late}, SafeFindings.{answer_of_chain, chain_settled}}
+use Rattle.cl_tight.specs.{TightAnswers.{tight_answers_of, tight_response}, TightTimings.tight_timing, ExactBounds.AreLengthsOf, TightFindings.{tight_chain_answer_of, tight_chain_answers_of}}
+use Rattle.cl_tight.proofs.{ModelTight.phased_of_chain, PhasedTimings.{tight_keeps, stays_by_report}, TightTasks.{phased_answer, tight_task, tight_of_settled, tight_group}}
 
 -- bounds are the answer only where no task is late
 bounds_where : (first : Option ℕ) (own bounds : Lengths) → chain_answer first own ≡ Bounds bounds → (first ≡ None) × (own ≡ bounds)

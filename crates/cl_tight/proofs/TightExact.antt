@@ -8,13 +8,13 @@ use Rattle.std.proofs.lemmas.Bool.{cases_lt}
 use Rattle.std.proofs.lemmas.Int.{ints}
 use Rattle.std.proofs.lemmas.Nat.Gcd.{dvd_trans}
 use Rattle.cl_model.specs.{declared.group.Group.Group, Groups.{group_at, no_group}}
-use Rattle.cl_runs.specs.{TaskTiming.{System, timing_at}, Chains.{last_group, first_job}}
 use Rattle.cl_model.proofs.Greatest.{greatest_least}
+use Rattle.cl_runs.specs.{TaskTiming.{System, timing_at}, Chains.{last_group, first_job}}
+use Rattle.cl_hop.specs.Bounds.{Lengths}
 use Rattle.cl_exact.specs.{declared.witness.Witness.Witness, Hyperperiod.period_of, ExactLengths.{second_arrival, HaveAllBegun, IsSteadyForward, chain_of, IsExact, Witnesses, AreExactLengths}, SteadyJobs.all_begun, Ties.AreTied}
-use Rattle.cl_bound.specs.Bounds.{Lengths}
 use Rattle.cl_phase.specs.{declared.stop.Stop.Stop, Pace.{previous, ComesRound}, Walks.{pace_at, onward, last_place, arrival_at_last}, TightBounds.{length_from, reduced_from, bounds_from}}
-use Rattle.cl_tight.specs.ExactBounds.{AreLengthsOf}
 use Rattle.cl_phase.proofs.{Stepped.IsStepped, WalksMove.{length_moves, reduced_moves}, EachPhase.{AreOverAll, each_phase}}
+use Rattle.cl_tight.specs.ExactBounds.{AreLengthsOf}
 use Rattle.cl_tight.proofs.{IdealSteps.{offset_of, read_in, ReadsAt, next_read, job_arrives, turn_is, last_is_read}, IdealWalks.{AreIdealStops, reads_at, walk_is_chain}, IdealChains.has_chain}
 
 -- a number of ticks that all periods of the groups divide

@@ -8,11 +8,12 @@ use Rattle.cl_model.specs.{declared.{model.SystemModel.SystemModel, chain.{Chain
 use Rattle.cl_model.proofs.{NamePlaces.place_within, PassedChecks.requirements_pass, Refused.{each_none, unless_none}}
 use Rattle.cl_runs.specs.{SystemOf.system_of, Requirements.{required_chain, no_requirement, requirement_at}}
 use Rattle.cl_runs.proofs.ModelSystem.{count_is}
-use Rattle.cl_bound.specs.{declared.answer.TaskAnswer.TaskAnswer, Answers.answer_at, Bounds.Lengths}
-use Rattle.cl_tight.specs.{TightAnswers.{tight_answer_to, tight_answers_of}, TightTimings.tight_timing, declared.findings.TightFindings.TightFindings, TightFindings.{tight_chain_answer_of, tight_chain_answers_of, has_exact_bounds, exact_bound, tight_verdict_of, tight_findings_of}}
+use Rattle.cl_hop.specs.Bounds.{Lengths}
+use Rattle.cl_bound.specs.{declared.answer.TaskAnswer.TaskAnswer, Answers.answer_at}
 use Rattle.cl_phase.specs.TightBounds.{tight_bounds}
-use Rattle.cl_tight.proofs.TightTasks.{phased_answer}
 use Rattle.cl_analyse.specs.{declared.findings.{ChainAnswer.{ChainAnswer, TheVariants.{Bounds, Late}}, Verdict.Verdict}, ChainAnswers.{first_late, chain_answer, chain_answer_at}, Verdicts.{required_bound, verdict_on}}
+use Rattle.cl_tight.specs.{TightAnswers.{tight_answer_to, tight_answers_of}, TightTimings.tight_timing, declared.findings.TightFindings.TightFindings, TightFindings.{tight_chain_answer_of, tight_chain_answers_of, has_exact_bounds, exact_bound, tight_verdict_of, tight_findings_of}}
+use Rattle.cl_tight.proofs.TightTasks.{phased_answer}
 
 -- one more of a mapped list
 more_mapped : {X Y : Type 0} (f : X → Y) (xs : List X) (n : ℕ) (d : X) (old new : List Y) (next : Y) → n < length xs → old ≡ take n (map f xs)

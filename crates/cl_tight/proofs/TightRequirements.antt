@@ -8,14 +8,15 @@ use Rattle.cl_model.specs.Validity.{IsValid}
 use Rattle.cl_model.proofs.GroupFacts.{groups_at_are, groups_at_some}
 use Rattle.cl_runs.specs.{TaskTiming.{System, IsSound}, SystemOf.system_of, Run.Run, Legal.IsLegal, Chains.first_group, Requirements.{required_chain, IsKept, HasLength, IsBrokenBy}}
 use Rattle.cl_runs.proofs.ModelSystem.{system_sound}
-use Rattle.cl_bound.specs.{Answers.NoneIsLate, Bounds.Lengths}
+use Rattle.cl_hop.specs.Bounds.{Lengths}
+use Rattle.cl_bound.specs.Answers.{NoneIsLate}
 use Rattle.cl_exact.specs.{ExactLengths.{Witnesses, chain_of}, RunPromises.{HaveResponses, HasWitnessRun, IsSettledTimedChain}}
 use Rattle.cl_exact.proofs.{ExactOnce.within_or_past, RunExact.witness_run, RunMoments.{IsIdealTask, task_period}, RunTasks.{settled_timed_groups, ideal_groups}, SomeExact.exact_lengths_exist}
-use Rattle.cl_tight.specs.{TightAnswers.{tight_answers_of, tight_response}, ExactBounds.AreLengthsOf, TightFindings.{tight_chain_answer_of, tight_chain_answers_of, has_exact_bounds, exact_bound, tight_verdict_of}, TightTimings.tight_timing}
-use Rattle.cl_tight.proofs.{ModelTight.phased_of_chain, CommonPeriods.exact_where, ExactDelays.{taken, takes_on, shorter_by_a_period}, TightChains.{timely_task, own_bounds, timings_keep, tight_given, tight_bounds_hold}}
+use Rattle.cl_phase.proofs.DelayReactions.{timed_delay}
 use Rattle.cl_analyse.specs.{declared.findings.{ChainAnswer.TheVariants.{Bounds, Late}, Verdict.TheVariants.{Met, Broken}}, ChainAnswers.chain_answer_at, Verdicts.{limited_bound, required_bound}}
 use Rattle.cl_analyse.proofs.KeptRequirements.{met_by, broken_by, bound_valued, kind_bound, HasChain}
-use Rattle.cl_phase.proofs.DelayReactions.{timed_delay}
+use Rattle.cl_tight.specs.{TightAnswers.{tight_answers_of, tight_response}, ExactBounds.AreLengthsOf, TightFindings.{tight_chain_answer_of, tight_chain_answers_of, has_exact_bounds, exact_bound, tight_verdict_of}, TightTimings.tight_timing}
+use Rattle.cl_tight.proofs.{ModelTight.phased_of_chain, CommonPeriods.exact_where, ExactDelays.{taken, takes_on, shorter_by_a_period}, TightChains.{timely_task, own_bounds, timings_keep, tight_given, tight_bounds_hold}}
 
 -- ---- kinds
 

@@ -4,12 +4,13 @@ use Rattle.std.proofs.lemmas.List.{get_or_default, length-take}
 use Rattle.std.proofs.Math.ListN.{length-map}
 use Rattle.std.proofs.lemmas.List.FromFn.{length-map-range_with_len}
 use Rattle.cl_model.specs.declared.{group.Group.Group, model.SystemModel.SystemModel}
-use Rattle.cl_runs.specs.{TaskTiming.{System, timing_at, IsSound}, SystemOf.system_of}
+use Rattle.cl_runs.specs.{TaskTiming.{System, timing_at, IsSound}, SystemOf.system_of, ExecutionTimes.greatest_execution}
 use Rattle.cl_runs.proofs.ModelSystem.{count_is}
-use Rattle.cl_resp.specs.{ByPhase.IsSettledByPhase, Question.greatest_execution}
-use Rattle.cl_bound.specs.{declared.{group_timing.GroupTiming.GroupTiming, answer.TaskAnswer.{TaskAnswer, TheVariants.Late}}, Answers.{is_late, response_in, answer_at}}
-use Rattle.cl_tight.specs.TightAnswers.{tight_answer_to, tight_answers_of, tight_response}
+use Rattle.cl_hop.specs.declared.group_timing.GroupTiming.{GroupTiming}
+use Rattle.cl_resp.specs.ByPhase.{IsSettledByPhase}
 use Rattle.cl_resp.proofs.LeastParts.{settled_timely, execution_in_response}
+use Rattle.cl_bound.specs.{declared.answer.TaskAnswer.{TaskAnswer, TheVariants.Late}, Answers.{is_late, response_in, answer_at}}
+use Rattle.cl_tight.specs.TightAnswers.{tight_answer_to, tight_answers_of, tight_response}
 use Rattle.cl_tight.proofs.TightTasks.{tight_task}
 
 -- a response by phases holds the greatest execution time of its task and is within the deadline

@@ -2,7 +2,7 @@
 use Rattle.std.specs.Prelude.{◌≡◌}
 use Rattle.cl_model.specs.declared.group.Group.{Group}
 use Rattle.cl_runs.specs.TaskTiming.{System, timing_at}
-use Rattle.cl_bound.specs.{Bounds.Lengths, Timings.IsTimingOf, declared.group_timing.GroupTiming.GroupTiming}
+use Rattle.cl_hop.specs.{Bounds.Lengths, Timings.IsTimingOf, declared.group_timing.GroupTiming.GroupTiming}
 use Rattle.cl_exact.specs.ExactLengths.{Witnesses}
 
 -- the bounds of a chain are its exact lengths

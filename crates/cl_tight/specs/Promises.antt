@@ -2,12 +2,13 @@
 use Rattle.std.specs.Prelude.{◌≡◌, ℕ, ◌<◌, ◌≤◌, length}
 use Rattle.cl_model.specs.{declared.model.SystemModel.SystemModel, Groups.groups_at}
 use Rattle.cl_runs.specs.{SystemOf.system_of, Requirements.{requirement_at, IsKept, IsBrokenBy}, Responses.AlwaysFinishesWithin}
+use Rattle.cl_hop.specs.{Bounds.Lengths, NoGreater.AreNoGreater, Promises.AreSafe}
 use Rattle.cl_resp.specs.Response.{Response}
-use Rattle.cl_bound.specs.{declared.answer.TaskAnswer.TheVariants.Settled, Answers.answer_at, Bounds.Lengths, NoGreater.AreNoGreater, Promises.AreSafe}
+use Rattle.cl_bound.specs.{declared.answer.TaskAnswer.TheVariants.Settled, Answers.answer_at}
 use Rattle.cl_exact.specs.ExactLengths.{Witnesses}
 use Rattle.cl_phase.specs.CompleteChains.{AreSomeTicks}
-use Rattle.cl_tight.specs.{ExactBounds.AreLengthsOf, declared.findings.TightFindings.TightFindings}
 use Rattle.cl_analyse.specs.{declared.findings.{ChainAnswer.TheVariants.Bounds, ExactAnswer.TheVariants.Exact, Verdict.TheVariants.{Met, Broken}, Findings.Findings}, ChainAnswers.{chain_answer_at, exact_answer_at}, Verdicts.verdict_at}
+use Rattle.cl_tight.specs.{ExactBounds.AreLengthsOf, declared.findings.TightFindings.TightFindings}
 
 -- The findings are safe. In every legal run each job of a settled task finishes within its response, each tight
 -- bound is at least the length of every complete chain of its kind, and 1 tick or more, what is met is kept, and what is

@@ -4,8 +4,8 @@ use Rattle.std.specs.Prelude.{ℕ, unwrap_or}
 use Rattle.cl_model.specs.declared.{group.Group.Group, task.AccessKind.{AccessKind, TheVariants.{Explicit, Implicit, Timed}}}
 use Rattle.cl_runs.specs.TaskTiming.{System, timing_at}
 use Rattle.cl_lead.specs.Leads.{lead_at}
+use Rattle.cl_hop.specs.{Hops.timing_in, declared.group_timing.GroupTiming.GroupTiming}
 use Rattle.cl_resp.specs.ByPhase.{response_through}
-use Rattle.cl_bound.specs.{Hops.timing_in, declared.group_timing.GroupTiming.GroupTiming}
 use Rattle.cl_tight.specs.TightAnswers.{tight_response}
 
 -- it reads at the lead of its first runnable or later

@@ -4,13 +4,15 @@ ghost use Rattle.std.specs.Prelude.{◌≡◌, ◌≢◌, ℕ, ◌<◌, ◌≤�
 ghost use Rattle.cl_model.specs.{declared.limits.TheConstants.MOST_STEPS, ByNumber.task_at, Groups.IsGroupOf};
 ghost use Rattle.cl_runs.specs.{SystemOf.system_of, TaskTiming.timing_at};
 ghost use Rattle.cl_lead.specs.Leads.{lead_at};
+ghost use Rattle.cl_hop.specs.Hops.{IsNear};
 ghost use Rattle.cl_resp.specs.ByPhase.{IsSettledByPhase};
-ghost use Rattle.cl_bound.specs.{Answers.{answer_at, is_late, response_in, NoneIsLate}, Hops.IsNear};
+ghost use Rattle.cl_bound.specs.Answers.{answer_at, is_late, response_in, NoneIsLate};
 ghost use Rattle.cl_tight.specs.{TightAnswers.{tight_answers_of, tight_response}, TightTimings.{earliest_read, part_response, latest_write, tight_timing}, Found.{number_found, AreWindowsOf}};
 
 use crate::found::FoundNumbers;
 use arrayvec::ArrayVec;
-use cl_bound::{GroupTiming, TaskAnswer};
+use cl_bound::TaskAnswer;
+use cl_hop::GroupTiming;
 use cl_lead::lead_of;
 use cl_model::{AccessKind, Group, List, MOST_STEPS, ValidModel};
 use cl_resp::respond_through;

@@ -2,10 +2,11 @@
 use Rattle.std.proofs.Common.{◌≡◌, ℕ, List, refl}
 use Rattle.cl_model.specs.{declared.model.SystemModel.SystemModel, Validity.IsValid}
 use Rattle.cl_analyse.proofs.{SafeFindings.findings_safe, SomeFindings.some_findings}
-use Rattle.cl_report.specs.{Report.{report_text, IsReportOf}, Tight.tight_text}
+use Rattle.cl_tight.proofs.TightLaws.{tight_findings_safe, tight_findings_as_tight}
+use Rattle.cl_report.specs.Report.{report_text, IsReportOf}
+use Rattle.cl_tighten.specs.Tight.{tight_text}
 use Rattle.cl_verify.specs.VerifyText.{verify_text, IsVerifyTextOf}
 use Rattle.cl_verify.proofs.SomeDecisions.{some_decisions}
-use Rattle.cl_tight.proofs.TightLaws.{tight_findings_safe, tight_findings_as_tight}
 use Rattle.cl_top.specs.Headline.{IsSafeReportOf, IsSafeTightReport}
 
 pub some_report : (model : SystemModel) → IsValid model → (text : List ℕ) × IsReportOf model text

@@ -3,8 +3,9 @@
 use Rattle.std.proofs.Common.{◌≡◌, ℕ, ◌≤◌, Bool, false, List, [], length, Option, Some, None, Ok, refl, sym, ap, ◌∙◌, subst}
 use Rattle.cl_model.specs.{declared.{model.SystemModel.SystemModel, refusal.Refusal.Refusal}, Reading.model_of, Refusals.first, Validity.{refusal_of, IsValid}}
 use Rattle.cl_edit.specs.declared.edit.Edit.{Edit, TheVariants.{Range, Whole, Period, Offset, Jitter, Distances, Burst, Deadline, Swap, Priorities, Move, Kind, AddTask, DropTask, AddChain, DropChain, Requirement, DropRequirement, Report, Tighten, Verify}}
-use Rattle.cl_report.specs.{Report.IsReportOf, Tight.tight_text}
+use Rattle.cl_report.specs.Report.{IsReportOf}
 use Rattle.cl_report.proofs.OneReport.{one_report}
+use Rattle.cl_tighten.specs.Tight.{tight_text}
 use Rattle.cl_verify.specs.VerifyText.{IsVerifyTextOf}
 use Rattle.cl_engine.specs.{declared.{files.TheConstants.FILE_LIMIT, outcome.Outcome.Outcome, status.TheConstants.DONE}, Fetched.{Fetched, told_fetch}, Files.model_file, Content.Model, Outcome.{ValidatesTo, ReadsTo, OpensTo}}
 use Rattle.cl_engine.proofs.Tellings.{told_bytes}

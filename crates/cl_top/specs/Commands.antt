@@ -11,18 +11,19 @@ pub mod Check
 pub mod CheckFile
 use Rattle.std.specs.Prelude.{◌≡◌, ℕ, ◌+◌, ◌≤◌, List, Option, Some, None}
 use Rattle.cl_model.specs.declared.model.SystemModel.{SystemModel}
+use Rattle.cl_write.specs.Texts.{IsTextOf}
 use Rattle.cl_runs.specs.Run.{Run}
 use Rattle.cl_gen.specs.Generated.{generated}
-use Rattle.cl_write.specs.Texts.{IsTextOf}
-use Rattle.cl_report.specs.{Report.IsReportOf, Survey.IsSurveyOf, Tight.tight_text}
+use Rattle.cl_report.specs.{Report.IsReportOf, Survey.IsSurveyOf}
+use Rattle.cl_tighten.specs.Tight.{tight_text}
 use Rattle.cl_explain.specs.{Explanation.explanation, Promises.IsSafeExplanation}
 use Rattle.cl_designs.specs.{Cuts.IsCutTextOf, Orders.{IsOrderTextOf, IsSafeOrderText}, Headroom.{IsHeadroomTextOf, IsSafeHeadroomText}, Margins.{IsMarginTextOf, IsSafeMarginText}}
+use Rattle.cl_help.specs.{declared.overview.TheConstants.HELP, Topic.about}
 use Rattle.cl_engine.specs.{declared.outcome.Outcome.Outcome, Content.Content, Done.IsDone, Language.Language}
 use Rattle.cl_top.specs.{declared.{command.Command.Command, commands.help.TheConstants.VERSION}, Command.{command_of, files_read}, Commands.{Apply.applying, Check.checking, CheckFile.checking_file, Draw.{drawing, IsDrawn}, Edit.editing, Observe.observing, Replay.{replaying, IsReplayed}}}
 use Rattle.cl_top.specs.{Commands.{Simulate.simulating, Why.reasoning, Witness.witnessing}, Headline.{IsSafeReportOf, AreSafeCuts, IsSafeTightReport}, Meaning.{Meaning, printing, on_nothing, on_model, no_step, any_steps, at_most, model_steps, task_steps, entry_steps, no_promise, promises}}
 use Rattle.cl_top.specs.{Meaning.{equal, of_one_model, WritesTheSame}, Verified.{IsVerifiedAs, IsShownInTime}}
 use Rattle.cl_top.specs.declared.command.Command.TheVariants as command
-use Rattle.cl_help.specs.{declared.overview.TheConstants.HELP, Topic.about}
 
 -- a command without a file that writes this text
 abbrev pub saying : (text : List ℕ) → Meaning

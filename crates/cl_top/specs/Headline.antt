@@ -4,8 +4,9 @@ use Rattle.cl_io.specs.{Shelf.{Held, MayBe}, Sink.appended}
 use Rattle.cl_model.specs.{declared.model.SystemModel.SystemModel, Reading.model_of, Validity.IsValid}
 use Rattle.cl_analyse.specs.{declared.findings.Findings.Findings, Findings.AreFindings, Headline.AreSafeFindings}
 use Rattle.cl_tight.specs.{TightFindings.tight_findings_of, Promises.{AreSafeTightFindings, AreAsTight}}
-use Rattle.cl_report.specs.{Report.report_text, Tight.tight_text}
 use Rattle.cl_cut.specs.CutAnswers.{AreSafeAnswers, AreNoWorseAnswers}
+use Rattle.cl_report.specs.Report.{report_text}
+use Rattle.cl_tighten.specs.Tight.{tight_text}
 use Rattle.cl_designs.specs.Cuts.{IsCutTextOf}
 use Rattle.cl_engine.specs.{declared.files.TheConstants.FILE_LIMIT, Calls.SinkCall}
 

@@ -8,8 +8,8 @@ use Rattle.std.proofs.lemmas.List.Elements.{All-filter}
 use Rattle.cl_model.specs.{declared.{limits.TheConstants.{MOST_TICKS, MOST_TASKS_OF_CORE}, model.SystemModel.SystemModel}, ByNumber.{stimulus_of, deadline_of}, Validity.IsValid}
 use Rattle.cl_model.proofs.ValidTasks.{kind_in_range, early_enough}
 use Rattle.cl_runs.specs.{SystemOf.system_of, TaskTiming.timing_at}
+use Rattle.cl_stim.proofs.StimulusKinds.{least_few}
 use Rattle.cl_resp.specs.{declared.question.{Above.Above, Question.Question}, Question.{taken_by, IsQuestionInRange}, Response.response_to}
-use Rattle.cl_resp.proofs.StimulusKinds.{least_few}
 use Rattle.cl_tune.specs.Inner.Filling.{without, AreDistinct, question_over, question_below, spans_few, spans_few_of, fits}
 use Rattle.cl_tune.proofs.{OthersTaken.{removed_is, next_is, few_without}, QuestionRanges.{shorter_without, question_in_range}}
 

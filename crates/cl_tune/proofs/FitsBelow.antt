@@ -10,11 +10,12 @@ use Rattle.std.proofs.lemmas.List.Folds.{fold-map}
 use Rattle.std.proofs.lemmas.List.Sums.{get_or-le-sum_by, AllPass-from_list_all, list_all-from_AllPass}
 use Rattle.std.proofs.Math.Nat.{mul-le-mul, mul-le-mul_right}
 use Rattle.cl_model.specs.{declared.stimulus.StimulusKind.{StimulusKind, TheVariants.{Periodic, Sporadic, Burst}}, ValidTasks.spans_too_many}
-use Rattle.cl_runs.specs.{Pattern.IsPattern, TaskTiming.{TimeRange, Timing, System, timing_at}}
-use Rattle.cl_stim.specs.{AnyStimulus.kind_of, Releases.most_releases}
-use Rattle.cl_resp.specs.{declared.question.{Above.Above, Question.Question}, Question.{greatest_execution, hold_of, longest_hold, taken_by}, Response.{Response, demand, response_to, AsksNoMore}}
 use Rattle.cl_model.proofs.Greatest.{greatest_within}
-use Rattle.cl_resp.proofs.{LessAsked.answered_no_later, StimulusKinds.kind_of-as_stimulus}
+use Rattle.cl_runs.specs.{Pattern.IsPattern, TaskTiming.{TimeRange, Timing, System, timing_at}, ExecutionTimes.greatest_execution}
+use Rattle.cl_stim.specs.{AnyStimulus.kind_of, Releases.most_releases}
+use Rattle.cl_stim.proofs.StimulusKinds.{kind_of-as_stimulus}
+use Rattle.cl_resp.specs.{declared.question.{Above.Above, Question.Question}, Question.{hold_of, longest_hold, taken_by}, Response.{Response, demand, response_to, AsksNoMore}}
+use Rattle.cl_resp.proofs.LessAsked.{answered_no_later}
 use Rattle.cl_tune.specs.Inner.Filling.{without, question_below, spans_few, fits_below, AreDistinct}
 use Rattle.cl_tune.proofs.Members.{has, HaveSame, all_at, has_filter, sum_without, sums_agree, has_place}
 

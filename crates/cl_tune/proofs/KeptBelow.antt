@@ -9,7 +9,8 @@ use Rattle.cl_model.specs.{Ranges.IsInRange, Validity.IsValid}
 use Rattle.cl_model.proofs.GroupFacts.{groups_at_are, groups_at_some}
 use Rattle.cl_runs.specs.{SystemOf.system_of, Requirements.required_chain}
 use Rattle.cl_runs.proofs.ModelSystem.{count_is, system_sound}
-use Rattle.cl_bound.specs.{declared.answer.TaskAnswer.TaskAnswer, Answers.{answer_to, answers_of, is_late, NoneIsLate}, Bounds.{Lengths, AreBoundsOf, settled_timings, bounds_of}, NoGreater.AreNoGreater}
+use Rattle.cl_hop.specs.{Bounds.{Lengths, AreBoundsOf}, NoGreater.AreNoGreater}
+use Rattle.cl_bound.specs.{declared.answer.TaskAnswer.TaskAnswer, Answers.{answer_to, answers_of, is_late, NoneIsLate}, Bounds.{settled_timings, bounds_of}}
 use Rattle.cl_bound.specs.declared.answer.TaskAnswer.TheVariants as answers
 use Rattle.cl_bound.proofs.SettledChains.{settled_sums}
 use Rattle.cl_exact.specs.{TimedPeriodic.is_timed_periodic_chain, ExactLengths.{Witnesses, AreExactLengths}, Hyperperiod.{IsWithinLimit, IsPastLimit}, Rhythms.{rhythm_of, rhythms}}
@@ -18,8 +19,10 @@ use Rattle.cl_analyse.specs.{declared.findings.{ChainAnswer.ChainAnswer, ExactAn
 use Rattle.cl_analyse.specs.{ChainAnswers.{chain_answer_at, exact_answer_at, IsTimelyAnswer, IsExactAnswer}, Findings.AreFindings, Verdicts.{bound_of_kind, witness_of_kind, limited_bound, limited_length, required_bound, required_exact, verdict_on, verdict_of, is_met}}
 use Rattle.cl_analyse.specs.declared.findings.ChainAnswer.TheVariants as bounded
 use Rattle.cl_analyse.proofs.{FirstLate.none_late, SafeFindings.{answer_of_chain, chain_settled}, SomeFindings.some_findings}
-use Rattle.cl_tune.specs.{Headroom.Keeps, Scaled.scaled}
-use Rattle.cl_tune.proofs.{BareChains.groups_alike, ScaledValid.{scaled_alike, scaled_valid}, ScaledAnswers.{all_in_time, range_stays}, ScaledBounds.{patterns_same, deadlines_same, accesses_same, bounds_sooner}}
+use Rattle.cl_scale.specs.Scaled.{scaled}
+use Rattle.cl_scale.proofs.{BareChains.groups_alike, ScaledValid.{scaled_alike, scaled_valid}}
+use Rattle.cl_tune.specs.Headroom.{Keeps}
+use Rattle.cl_tune.proofs.{ScaledAnswers.{all_in_time, range_stays}, ScaledBounds.{patterns_same, deadlines_same, accesses_same, bounds_sooner}}
 
 -- ---- groups
 

@@ -5,7 +5,8 @@ use Rattle.cl_model.specs.{declared.model.SystemModel.SystemModel, Ranges.IsInRa
 use Rattle.cl_bound.specs.{declared.answer.TaskAnswer.TaskAnswer, Answers.is_late}
 use Rattle.cl_analyse.specs.{declared.findings.{Findings.Findings, Verdict.Verdict}, Findings.AreFindings, Verdicts.is_met}
 use Rattle.cl_analyse.proofs.SafeFindings.{one_findings}
-use Rattle.cl_tune.specs.{Headroom.Keeps, Scaled.scaled}
+use Rattle.cl_scale.specs.Scaled.{scaled}
+use Rattle.cl_tune.specs.Headroom.{Keeps}
 
 -- no task is late, and each requirement is met
 abbrev pub IsKept : Findings → Type 0

@@ -4,8 +4,10 @@ use Rattle.std.specs.Prelude.{slice_index}
 use Rattle.cl_model.specs.{declared.model.SystemModel.SystemModel, Validity.IsValid}
 use Rattle.cl_runs.specs.Requirements.{MeetsDeadlines, IsInTime}
 use Rattle.cl_analyse.proofs.InTime.{deadlines_met, in_time}
-use Rattle.cl_tune.specs.{BestOrders.AreBestPriorities, Headroom.Keeps, Priorities.with_priorities, Scaled.scaled}
-use Rattle.cl_tune.proofs.{ReorderedModels.all_in_time, ReorderedValid.reordered_valid, ScaledValid.scaled_valid}
+use Rattle.cl_scale.specs.Scaled.{scaled}
+use Rattle.cl_scale.proofs.ScaledValid.{scaled_valid}
+use Rattle.cl_tune.specs.{BestOrders.AreBestPriorities, Headroom.Keeps, Priorities.with_priorities}
+use Rattle.cl_tune.proofs.{ReorderedModels.all_in_time, ReorderedValid.reordered_valid}
 
 pub reordered_in_time : (model : SystemModel) → IsValid model → (priorities : List ℕ) → AreBestPriorities model priorities
     → MeetsDeadlines (with_priorities model (slice_index priorities))

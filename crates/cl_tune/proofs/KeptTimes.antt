@@ -6,8 +6,10 @@ use Rattle.std.proofs.lemmas.Bool.{true≢false}
 use Rattle.std.proofs.lemmas.List.{length-map}
 use Rattle.cl_model.specs.{declared.{model.SystemModel.SystemModel, task.TaskDef.TaskDef}, Ranges.{IsTaskInRange, IsInRange}, Validity.IsValid}
 use Rattle.cl_resp.specs.Question.{IsQuestionInRange}
-use Rattle.cl_tune.specs.{declared.times.TaskTimes.TaskTimes, Headroom.Keeps, Inner.Times.{are_within, scaled_times, question_with, AreTimely}, Scaled.scaled}
-use Rattle.cl_tune.proofs.{ScaledQuestions.{question_in_range, kept_timely, timely_keeps}, ScaledTimes.{scaled_in_range, scaled_within}, ScaledValid.scaled_valid}
+use Rattle.cl_scale.specs.Scaled.{scaled}
+use Rattle.cl_scale.proofs.ScaledValid.{scaled_valid}
+use Rattle.cl_tune.specs.{declared.times.TaskTimes.TaskTimes, Headroom.Keeps, Inner.Times.{are_within, scaled_times, question_with, AreTimely}}
+use Rattle.cl_tune.proofs.{ScaledQuestions.{question_in_range, kept_timely, timely_keeps}, ScaledTimes.{scaled_in_range, scaled_within}}
 
 -- of a valid model, these tasks
 module _ (model : SystemModel) (percent : ℕ) (valid : IsValid model) (tasks : List TaskDef) (same : tasks ≡ model.tasks) where

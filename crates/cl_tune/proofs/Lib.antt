@@ -14,9 +14,6 @@ pub mod OrdersTogether
 pub mod ReorderedModels
 pub mod ReorderedPriorities
 pub mod ReorderedValid
-pub mod BareModels
-pub mod BareChains
-pub mod ScaledValid
 pub mod ScaledTimes
 pub mod ScaledQuestions
 pub mod ScaledAnswers

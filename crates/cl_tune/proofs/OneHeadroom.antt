@@ -8,8 +8,10 @@ use Rattle.cl_model.specs.{declared.{limits.TheConstants.{MOST_TICKS, MOST_PRIOR
 use Rattle.cl_bound.specs.{declared.answer.TaskAnswer.TaskAnswer, Answers.is_late}
 use Rattle.cl_analyse.specs.{declared.findings.{Findings.Findings, Verdict.Verdict}, Verdicts.is_met}
 use Rattle.cl_analyse.proofs.SomeFindings.{some_findings}
-use Rattle.cl_tune.specs.{declared.percent.TheConstants.MOST_PERCENT, Headroom.{Keeps, IsGreatestKept, IsHeadroom, SmallerKeep}, Scaled.{scaled_task, scaled}}
-use Rattle.cl_tune.proofs.{KeptBelow.kept_below, KeptFindings.{IsKept, keeping, kept_of}, ScaledValid.scaled_valid}
+use Rattle.cl_scale.specs.{declared.percent.TheConstants.MOST_PERCENT, Scaled.{scaled_task, scaled}}
+use Rattle.cl_scale.proofs.ScaledValid.{scaled_valid}
+use Rattle.cl_tune.specs.Headroom.{Keeps, IsGreatestKept, IsHeadroom, SmallerKeep}
+use Rattle.cl_tune.proofs.{KeptBelow.kept_below, KeptFindings.{IsKept, keeping, kept_of}}
 
 -- ---- what is decided
 

@@ -7,9 +7,9 @@ use Rattle.std.proofs.lemmas.Bool.{eqb-true, cond-true, cond-false, and_parts, a
 use Rattle.std.proofs.lemmas.List.Elements.{All-head, All-tail}
 use Rattle.cl_model.specs.{declared.model.SystemModel.SystemModel, Timing.greatest_jitter, ByNumber.{core_of, tasks_of_core}, Validity.IsValid, ValidTasks.spans_too_many, Holds.greatest_by}
 use Rattle.cl_model.proofs.NamesKnown.{core_within}
-use Rattle.cl_runs.specs.{SystemOf.system_of, TaskTiming.{Timing, System, timing_at}, Priorities.{is_above, may_block}}
+use Rattle.cl_runs.specs.{SystemOf.system_of, TaskTiming.{Timing, System, timing_at}, Priorities.{is_above, may_block}, ExecutionTimes.greatest_execution}
 use Rattle.cl_runs.proofs.ModelSystem.{count_is}
-use Rattle.cl_resp.specs.{declared.question.Question.Question, Question.{greatest_execution, longest_hold, block_of, taken_by, question_of}, Response.response_to}
+use Rattle.cl_resp.specs.{declared.question.Question.Question, Question.{longest_hold, block_of, taken_by, question_of}, Response.response_to}
 use Rattle.cl_bound.specs.Answers.{answer_with, answer_to, is_late}
 use Rattle.cl_tune.specs.{BestOrders.{AreBestPriorities, HasBestPriorities}, Orders.{priority_in, IsPassing}, Priorities.with_priorities}
 use Rattle.cl_tune.proofs.{Members.{has, has_place, all_at, permuted_same}, CoreOrders.task_there, NewPriorities.{timing_with, system_with, count_with, timing_with_is, priority_within, given_system, ordered_system}, Timings.core_is, UnderOrders.range_below}

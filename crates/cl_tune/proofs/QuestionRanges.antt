@@ -10,8 +10,9 @@ use Rattle.cl_model.specs.ValidTasks.{spans_too_many}
 use Rattle.cl_model.proofs.ValidTasks.{kind_in_range, early_enough, some_time, little_time}
 use Rattle.cl_runs.specs.{TaskTiming.timing_at, SystemOf.system_of}
 use Rattle.cl_runs.proofs.ModelSystem.{count_is, system_sound}
+use Rattle.cl_stim.proofs.StimulusKinds.{kind_of-as_stimulus, least_few}
 use Rattle.cl_resp.specs.Question.{longest_hold, taken_by, IsAboveInRange, IsQuestionInRange}
-use Rattle.cl_resp.proofs.{StimulusKinds.{kind_of-as_stimulus, least_few}, Filters.shorter}
+use Rattle.cl_resp.proofs.Filters.{shorter}
 use Rattle.cl_tune.specs.Inner.Filling.{without, question_below, spans_few}
 use Rattle.cl_tune.proofs.Timings.{deadline_is, time_is, hold_is, hold_few}
 

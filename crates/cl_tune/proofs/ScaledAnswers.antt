@@ -10,13 +10,13 @@ use Rattle.std.proofs.lemmas.Nat.{le-div}
 use Rattle.std.proofs.lemmas.Simd.{map-map}
 use Rattle.std.proofs.Math.Nat.{mul-le-mul_left, div-mul-le_self}
 use Rattle.cl_model.specs.{declared.{model.SystemModel.SystemModel, task.{RunnableDef.RunnableDef, TaskDef.TaskDef}}, Ranges.{IsRunnableInRange, IsTaskInRange, IsInRange}, Holds.greatest_by}
-use Rattle.cl_runs.specs.{SystemOf.{range_of, timing_of, system_of}, TaskTiming.{TimeRange, Timing}, Priorities.{is_above, may_block}}
-use Rattle.cl_stim.specs.{AnyStimulus.{kind_of, as_stimulus}, Releases.most_releases}
-use Rattle.cl_resp.specs.{declared.question.{Above.Above, Question.Question}, Question.{greatest_execution, hold_of, longest_hold, block_of, taken_by, question_of}, Response.{Response, demand, response_to, AsksNoMore}}
-use Rattle.cl_resp.proofs.{Filters.filter-map, LessAsked.answered_no_later}
 use Rattle.cl_model.proofs.Greatest.{greatest_mapped, greatest_within, greatest_least}
+use Rattle.cl_runs.specs.{SystemOf.{range_of, timing_of, system_of}, TaskTiming.{TimeRange, Timing}, Priorities.{is_above, may_block}, ExecutionTimes.greatest_execution}
+use Rattle.cl_stim.specs.{AnyStimulus.{kind_of, as_stimulus}, Releases.most_releases}
+use Rattle.cl_resp.specs.{declared.question.{Above.Above, Question.Question}, Question.{hold_of, longest_hold, block_of, taken_by, question_of}, Response.{Response, demand, response_to, AsksNoMore}}
+use Rattle.cl_resp.proofs.{Filters.filter-map, LessAsked.answered_no_later}
 use Rattle.cl_bound.specs.{declared.answer.TaskAnswer.{TaskAnswer, TheVariants.Late}, Answers.{answer_with, answer_to, answers_of, answer_at, is_late, response_in}}
-use Rattle.cl_tune.specs.Scaled.{scaled_time, scaled_runnable, scaled_task, scaled}
+use Rattle.cl_scale.specs.Scaled.{scaled_time, scaled_runnable, scaled_task, scaled}
 
 -- ---- times
 

@@ -9,9 +9,10 @@ use Rattle.cl_model.specs.{declared.{group.Group.Group, model.SystemModel.System
 use Rattle.cl_runs.specs.{SystemOf.{range_of, system_of}, TaskTiming.{TimeRange, Timing, System, timing_at, no_timing, no_range}}
 use Rattle.cl_comm.specs.{declared.spot.{Spot.Spot, Window.Window}, Windows.{least_times, spot_at, window_of, window_at}}
 use Rattle.cl_comm.proofs.Responses.{reads_stay, ends_rise}
-use Rattle.cl_bound.specs.{Answers.{answers_of, answer_at, is_late, response_in, NoneIsLate}, Bounds.{Lengths, AreBoundsOf, settled_timing, settled_timings}, Hops.group_timing, NoGreater.{StaysWithin, AreNoGreater}}
-use Rattle.cl_bound.proofs.NoGreater.{bounds_no_greater}
-use Rattle.cl_tune.specs.Scaled.{scaled_runnable, scaled}
+use Rattle.cl_hop.specs.{Bounds.{Lengths, AreBoundsOf}, Hops.group_timing, NoGreater.{StaysWithin, AreNoGreater}}
+use Rattle.cl_hop.proofs.NoGreater.{bounds_no_greater}
+use Rattle.cl_bound.specs.{Answers.{answers_of, answer_at, is_late, response_in, NoneIsLate}, Bounds.{settled_timing, settled_timings}}
+use Rattle.cl_scale.specs.Scaled.{scaled_runnable, scaled}
 use Rattle.cl_tune.proofs.ScaledAnswers.{timing, tasks_are, answer_sooner}
 
 -- ---- what doesn't depend on greatest times

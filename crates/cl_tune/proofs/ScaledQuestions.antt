@@ -14,8 +14,10 @@ use Rattle.cl_resp.proofs.Questions as asked
 use Rattle.cl_bound.specs.{declared.answer.TaskAnswer.{TaskAnswer, TheVariants.Late}, Answers.{answer_with, answer_to, answers_of, answer_at, is_late}}
 use Rattle.cl_analyse.specs.{declared.findings.Verdict.Verdict, Verdicts.{verdict_of, is_met}}
 use Rattle.cl_analyse.proofs.SomeFindings.{some_findings}
-use Rattle.cl_tune.specs.{declared.times.TaskTimes.TaskTimes, Headroom.Keeps, Inner.Times.{is_higher, may_hold, above_with, hold_with, question_with, AreTimely}, Scaled.{scaled_runnable, scaled}}
-use Rattle.cl_tune.proofs.{ScaledTimes.{filters_agree, count_kept, stimulus_is, priority_is, deadline_is, jitter_is, others_are, times, task_is, times_are, time_is}, ScaledValid.scaled_valid}
+use Rattle.cl_scale.specs.Scaled.{scaled_runnable, scaled}
+use Rattle.cl_scale.proofs.ScaledValid.{scaled_valid}
+use Rattle.cl_tune.specs.{declared.times.TaskTimes.TaskTimes, Headroom.Keeps, Inner.Times.{is_higher, may_hold, above_with, hold_with, question_with, AreTimely}}
+use Rattle.cl_tune.proofs.ScaledTimes.{filters_agree, count_kept, stimulus_is, priority_is, deadline_is, jitter_is, others_are, times, task_is, times_are, time_is}
 
 module _ (model : SystemModel) (percent : ℕ) where
   abbrev made : SystemModel

@@ -9,7 +9,8 @@ use Rattle.std.proofs.lemmas.List.Folds.{fold-map}
 use Rattle.cl_model.specs.{declared.{model.SystemModel.SystemModel, stimulus.StimulusKind.StimulusKind, task.{RunnableDef.RunnableDef, TaskDef.TaskDef}}, ByNumber.{no_task, task_at, core_number, stimulus_kind, core_of, stimulus_of, deadline_of, jitter_of, greatest_time, time_of}}
 use Rattle.cl_model.specs.{ByNumber.tasks_of_core, Ranges.{IsRunnableInRange, IsTaskInRange, IsInRange}, Timing.{greatest_jitter, deadline_under}}
 use Rattle.cl_model.proofs.ListFacts.{both_pass, both_true}
-use Rattle.cl_tune.specs.{declared.times.TaskTimes.TaskTimes, Inner.Times.{stays_within, are_within, scaled_times, no_times, times_at}, Scaled.{scaled_runnable, scaled_task, scaled}}
+use Rattle.cl_scale.specs.Scaled.{scaled_runnable, scaled_task, scaled}
+use Rattle.cl_tune.specs.{declared.times.TaskTimes.TaskTimes, Inner.Times.{stays_within, are_within, scaled_times, no_times, times_at}}
 
 -- ---- lists
 

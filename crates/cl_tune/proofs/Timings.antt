@@ -3,10 +3,10 @@ use Rattle.std.proofs.Common.{◌≡◌, ℕ, ◌+◌, ◌-◌, ◌<◌, ◌≤�
 use Rattle.std.proofs.lemmas.List.Folds.{fold-map}
 use Rattle.cl_model.specs.{declared.{limits.TheConstants.MOST_TICKS, model.SystemModel.SystemModel}, ByNumber.{task_at, core_of, stimulus_of, deadline_of, time_of}, Validity.IsValid, Holds.{runnable_hold, task_hold}}
 use Rattle.cl_model.proofs.{ValidTasks.runnables_in_range, Greatest.{greatest_within, greatest_mapped}}
-use Rattle.cl_runs.specs.{TaskTiming.{TimeRange, Timing, timing_at}, SystemOf.{range_of, system_of}}
+use Rattle.cl_runs.specs.{TaskTiming.{TimeRange, Timing, timing_at}, SystemOf.{range_of, system_of}, ExecutionTimes.greatest_execution}
 use Rattle.cl_runs.proofs.ModelSystem.{timing_is}
 use Rattle.cl_stim.specs.AnyStimulus.{as_stimulus}
-use Rattle.cl_resp.specs.{declared.question.Above.Above, Question.{greatest_execution, hold_of, longest_hold, taken_by}}
+use Rattle.cl_resp.specs.{declared.question.Above.Above, Question.{hold_of, longest_hold, taken_by}}
 
 -- how long a runnable of a task may hold its core, by number
 abbrev pub hold_at : SystemModel → (task : ℕ) → ℕ

@@ -9,10 +9,11 @@ use Rattle.std.proofs.lemmas.List.Folds.{fold-map}
 use Rattle.std.proofs.lemmas.List.Sums.{fold-append, sum_by-le-sum_by, AllPass-from_list_all, list_all-from_AllPass}
 use Rattle.cl_model.specs.{declared.stimulus.StimulusKind.StimulusKind, Timing.greatest_jitter, ValidTasks.spans_too_many, Holds.greatest_by}
 use Rattle.cl_model.proofs.{ListFacts.same_tests, Greatest.{greatest_least, greatest_within, greatest_agrees, greatest_mapped}}
-use Rattle.cl_runs.specs.{TaskTiming.{Timing, System, timing_at}, Priorities.{is_above, may_block}}
+use Rattle.cl_runs.specs.{TaskTiming.{Timing, System, timing_at}, Priorities.{is_above, may_block}, ExecutionTimes.greatest_execution}
 use Rattle.cl_stim.specs.{AnyStimulus.kind_of, Releases.most_releases}
-use Rattle.cl_resp.specs.{declared.question.Above.Above, Question.{greatest_execution, longest_hold, block_of, taken_by, question_of}, Response.{Response, demand, response_to}}
-use Rattle.cl_resp.proofs.{Filters.filter-map, StimulusKinds.kind_of-as_stimulus}
+use Rattle.cl_stim.proofs.StimulusKinds.{kind_of-as_stimulus}
+use Rattle.cl_resp.specs.{declared.question.Above.Above, Question.{longest_hold, block_of, taken_by, question_of}, Response.{Response, demand, response_to}}
+use Rattle.cl_resp.proofs.Filters.{filter-map}
 use Rattle.cl_bound.specs.Answers.{answer_with, answer_to, is_late}
 use Rattle.cl_tune.specs.{Inner.Filling.{question_below, spans_few, fits_below, AreDistinct}, Orders.{priority_in, IsPassing}}
 use Rattle.cl_tune.proofs.{Members.{has, has_head, has_more, has_cases, has_append, has_filter, has_place, HaveSame, all_at, distinct_filter, sums_agree}, FitsBelow.{load, demand_below, asks_less}, FilledOrders.{AllFit, ascending_range, ascending_distinct}, NewPriorities.timing_with}

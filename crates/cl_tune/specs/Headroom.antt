@@ -3,7 +3,7 @@ use Rattle.std.specs.Prelude.{◌≡◌, ℕ, ◌<◌, ◌≤◌, true, false, A
 use Rattle.cl_model.specs.{declared.model.SystemModel.SystemModel, Ranges.IsInRange}
 use Rattle.cl_bound.specs.{declared.answer.TaskAnswer.TaskAnswer, Answers.is_late}
 use Rattle.cl_analyse.specs.{declared.findings.{Findings.Findings, Verdict.Verdict}, Findings.AreFindings, Verdicts.is_met}
-use Rattle.cl_tune.specs.{declared.percent.TheConstants.MOST_PERCENT, Scaled.scaled}
+use Rattle.cl_scale.specs.{declared.percent.TheConstants.MOST_PERCENT, Scaled.scaled}
 
 -- a percentage keeps: the model that it scales is in range, none of its tasks is late, and each requirement is met
 pub record Keeps (model : SystemModel) (percent : ℕ) : Type 0 where

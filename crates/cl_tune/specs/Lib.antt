@@ -2,6 +2,5 @@ pub mod Dictionary
 pub mod Priorities
 pub mod Orders
 pub mod BestOrders
-pub mod Scaled
 pub mod Headroom
 pub mod Inner

@@ -3,7 +3,8 @@ ghost use Rattle.std.specs.Prelude.{◌≡◌, ℕ, ◌<◌, ◌≤◌, false, L
 ghost use Rattle.cl_model.specs.{declared.model.SystemModel.SystemModel, Ranges.IsInRange, Validity.IsValid};
 ghost use Rattle.cl_runs.specs.{SystemOf.system_of, Requirements.{MeetsDeadlines, IsInTime}};
 ghost use Rattle.cl_bound.specs.{declared.answer.TaskAnswer.TaskAnswer, Answers.{answers_of, is_late}};
-ghost use Rattle.cl_tune.specs.{declared.answer.OrderAnswer.OrderAnswer, BestOrders.{IsBestOrder, AreBestPriorities, IsOrderAnswer}, Headroom.{Keeps, IsHeadroom}, Orders.IsPassing, Priorities.{with_priorities, HasPriorities}, Scaled.scaled};
+ghost use Rattle.cl_scale.specs.Scaled.{scaled};
+ghost use Rattle.cl_tune.specs.{declared.answer.OrderAnswer.OrderAnswer, BestOrders.{IsBestOrder, AreBestPriorities, IsOrderAnswer}, Headroom.{Keeps, IsHeadroom}, Orders.IsPassing, Priorities.{with_priorities, HasPriorities}};
 
 /// A core has at most one best order.
 pub fn best_orders_are_unique()

@@ -8,13 +8,9 @@ mod fitting;
 mod in_time;
 pub mod laws;
 mod ordering;
-mod percent;
 mod room;
-mod scaling;
 mod times;
 
 pub use answer::OrderAnswer;
 pub use ordering::order;
-pub use percent::MOST_PERCENT;
 pub use room::headroom;
-pub use scaling::scaled_time;

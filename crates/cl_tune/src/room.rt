@@ -3,15 +3,15 @@ ghost use Rattle.std.specs.Prelude.{◌≡◌, ◌≤◌, ◌↔◌, true, false
 ghost use Rattle.cl_model.specs.{Ranges.IsInRange, Validity.IsValid};
 ghost use Rattle.cl_bound.specs.Answers.{is_late};
 ghost use Rattle.cl_analyse.specs.Verdicts.{is_met};
-ghost use Rattle.cl_tune.specs.{Headroom.{Keeps, IsHeadroom, SmallerKeep}, Scaled.scaled};
+ghost use Rattle.cl_scale.specs.Scaled.{scaled};
+ghost use Rattle.cl_tune.specs.Headroom.{Keeps, IsHeadroom, SmallerKeep};
 
 use crate::in_time::tasks_in_time;
-use crate::percent::MOST_PERCENT;
-use crate::scaling::scaled;
 use crate::times::{all_times, are_within};
 use cl_analyse::{Findings, Verdict, analyse};
 use cl_bound::TaskAnswer;
 use cl_model::{SystemModel, ValidModel};
+use cl_scale::{MOST_PERCENT, scaled};
 use cl_time::{NoMemory, Steps};
 use std::alloc::Global;
 use std::sync::ledger::Ledger;

@@ -4,9 +4,8 @@ ghost use Rattle.std.specs.List.{list_all};
 ghost use Rattle.cl_model.specs.{Holds.greatest_by, Ranges.{IsRunnableInRange, IsTaskInRange}};
 ghost use Rattle.cl_tune.specs.Inner.Times.{scaled_greatest, scaled_hold, stays_within, are_within, scaled_times};
 
-use crate::percent::MOST_PERCENT;
-use crate::scaling::scaled_time;
 use cl_model::{List, MOST_RUNNABLES, MOST_TICKS, RunnableDef, TaskDef};
+use cl_scale::{MOST_PERCENT, scaled_time};
 use cl_time::NoMemory;
 use std::alloc::Global;
 

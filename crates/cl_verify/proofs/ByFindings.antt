@@ -6,15 +6,16 @@ use Rattle.std.proofs.lemmas.List.{get_or-map}
 use Rattle.cl_model.specs.declared.{model.SystemModel.SystemModel, chain.RequirementDef.RequirementDef}
 use Rattle.cl_runs.specs.{Requirements.{no_requirement, requirement_at, required_chain, IsBrokenBy}, SystemOf.system_of}
 use Rattle.cl_runs.proofs.ModelSystem.{count_is}
+use Rattle.cl_hop.specs.Bounds.{Lengths}
 use Rattle.cl_resp.specs.{ByPhase.response_by_phase, Response.Response}
-use Rattle.cl_bound.specs.{declared.answer.TaskAnswer.TaskAnswer, Bounds.Lengths, Answers.{answer_with, answer_at, is_late}}
+use Rattle.cl_bound.specs.{declared.answer.TaskAnswer.TaskAnswer, Answers.{answer_with, answer_at, is_late}}
 use Rattle.cl_bound.specs.declared.answer.TaskAnswer.TheVariants as answer
 use Rattle.cl_analyse.specs.{declared.findings.{ChainAnswer.ChainAnswer, Verdict.Verdict}, ChainAnswers.chain_answer_at, Verdicts.{limited_bound, required_bound, verdict_on, verdict_at}}
 use Rattle.cl_analyse.specs.declared.findings.ChainAnswer.TheVariants as chain
 use Rattle.cl_analyse.specs.declared.findings.Verdict.TheVariants as verdict
 use Rattle.cl_tight.specs.{declared.findings.TightFindings.TightFindings, TightAnswers.tight_answers_of, TightFindings.{tight_chain_answers_of, has_exact_bounds, exact_bound, tight_verdict_of, tight_findings_of}}
-use Rattle.cl_tight.proofs.TightTasks.{phased_answer}
-use Rattle.cl_report.proofs.{ReportLines.{task_answer, chain_answer_in}, TightLines.{tight_tasks_found, tight_chains_within}}
+use Rattle.cl_tight.proofs.{TightTasks.phased_answer, TightLengths.{tight_tasks_found, tight_chains_within}}
+use Rattle.cl_report.proofs.ReportLines.{task_answer, chain_answer_in}
 use Rattle.cl_verify.specs.declared.decision.TaskDecision.TheVariants as task
 use Rattle.cl_verify.specs.{declared.decision.Decision.Decision, Decisions.{IsDecisionOnTask, IsDecisionByRuns, IsDecisionOn, tight_bound}, Witnesses.settled_response}
 use Rattle.cl_verify.specs.declared.decision.Decision.TheVariants as requirement

@@ -8,8 +8,7 @@ use Rattle.cl_analyse.specs.declared.findings.ChainAnswer.TheVariants as chain
 use Rattle.cl_analyse.specs.{declared.findings.Verdict.Verdict, ChainAnswers.chain_answer_at, Verdicts.verdict_at}
 use Rattle.cl_analyse.specs.declared.findings.Verdict.TheVariants as verdict
 use Rattle.cl_tight.specs.TightFindings.{tight_findings_of}
-use Rattle.cl_tight.proofs.TightLists.{required_known}
-use Rattle.cl_report.proofs.TightLines.{tight_chains_found, tight_late_known}
+use Rattle.cl_tight.proofs.{TightLists.required_known, TightLengths.{tight_chains_found, tight_late_known}}
 use Rattle.cl_verify.specs.{declared.decision.{TaskDecision.TaskDecision, Decision.Decision, Decisions.Decisions}, Decisions.{IsDecisionByRuns, IsDecisionOn, AreRequirementDecisions, task_decision_at, decision_at}, VerifyText.{met_count, broken_count, unshown_count, sum_line}}
 use Rattle.cl_verify.specs.VerifyText.{none_of_words, decision_words, decision_line}
 use Rattle.cl_verify.specs.declared.decision.TaskDecision.TheVariants as task

@@ -11,9 +11,8 @@ use Rattle.cl_bound.specs.declared.answer.TaskAnswer.TheVariants as answer
 use Rattle.cl_analyse.specs.{declared.findings.Verdict.Verdict, Verdicts.{verdict_at, is_met}}
 use Rattle.cl_analyse.specs.declared.findings.Verdict.TheVariants as verdict
 use Rattle.cl_tight.specs.TightFindings.{tight_findings_of, is_verified}
-use Rattle.cl_tight.proofs.TightLaws.{tight_findings_safe}
+use Rattle.cl_tight.proofs.{TightLaws.tight_findings_safe, TightLengths.{tight_tasks_found, tight_verdicts_found}}
 use Rattle.cl_near.specs.Seen.{MissesDeadline}
-use Rattle.cl_report.proofs.TightLines.{tight_tasks_found, tight_verdicts_found}
 use Rattle.cl_verify.specs.declared.decision.TaskDecision.TheVariants as task
 use Rattle.cl_verify.specs.declared.decision.Decision.TheVariants as requirement
 use Rattle.cl_verify.specs.{declared.decision.Decisions.Decisions, Decisions.{AreDecisionsOf, task_decision_at, decision_at}, VerifyText.{is_task_broken, is_task_unshown, is_requirement_broken, is_requirement_unshown, broken_count, unshown_count}}

@@ -11,7 +11,8 @@ ghost use Rattle.cl_verify.specs.{Decisions.{IsDecisionOnLate, IsDecisionOnTask,
 use crate::decision::{Decision, Decisions, TaskDecision};
 use crate::runs::Runs;
 use cl_analyse::{ChainAnswer, Verdict};
-use cl_bound::{Bounds, TaskAnswer};
+use cl_bound::TaskAnswer;
+use cl_hop::Bounds;
 use cl_model::{LengthKind, List, RequirementDef, RequirementKind, ValidModel};
 use cl_near::{Budget, SeenOfTask};
 use cl_tight::TightFindings;

@@ -4,13 +4,13 @@ use Rattle.std.specs.Prelude.{IfSome}
 use Rattle.std.proofs.lemmas.List.{get_or-map}
 use Rattle.cl_model.specs.{declared.{model.SystemModel.SystemModel, chain.{RequirementKind.RequirementKind, RequirementDef.RequirementDef}, group.Group.Group}, ByNumber.{no_chain, chain_at}, Groups.groups_at, Validity.IsValid}
 use Rattle.cl_runs.specs.{Requirements.{no_requirement, requirement_at, required_chain, HasLength}, SystemOf.system_of}
-use Rattle.cl_bound.specs.{Answers.{answer_at, NoneIsLate}, Bounds.Lengths, declared.{answer.TaskAnswer.TaskAnswer, group_timing.GroupTiming.GroupTiming}}
+use Rattle.cl_hop.specs.{Bounds.Lengths, declared.group_timing.GroupTiming.GroupTiming}
+use Rattle.cl_bound.specs.{Answers.{answer_at, NoneIsLate}, declared.answer.TaskAnswer.TaskAnswer}
+use Rattle.cl_phase.specs.{TightBounds.tight_bounds, declared.whole.WholeWalk.WholeWalk, Whole.IsWholeWalkOf}
 use Rattle.cl_analyse.specs.{declared.findings.ChainAnswer.{ChainAnswer, TheVariants.{Bounds, Late}}, Verdicts.{limited_bound, verdict_at}}
 use Rattle.cl_tight.specs.{declared.findings.TightFindings.TightFindings, TightTimings.tight_timing, TightFindings.{tight_chain_answer_of, tight_chain_answers_of, tight_findings_of}}
-use Rattle.cl_tight.proofs.{TightChains.tight_given, TightLists.required_known}
-use Rattle.cl_phase.specs.{TightBounds.tight_bounds, declared.whole.WholeWalk.WholeWalk, Whole.IsWholeWalkOf}
+use Rattle.cl_tight.proofs.{TightChains.tight_given, TightLists.required_known, TightLengths.{tight_chains_found, tight_late_known}}
 use Rattle.cl_report.specs.Report.{chain_line}
-use Rattle.cl_report.proofs.TightLines.{tight_chains_found, tight_late_known}
 use Rattle.cl_verify.specs.{declared.decision.{TaskDecision.TaskDecision, Decision.Decision}, Decisions.{IsDecisionOnTask, IsDecisionOn}, VerifyText.{task_decision_line, decision_line}}
 use Rattle.cl_verify.specs.declared.decision.Decision.TheVariants as requirement
 use Rattle.cl_verify.proofs.{ByFindings.{tasks_of_findings, chain_found}, DecisionLines.late_answered}

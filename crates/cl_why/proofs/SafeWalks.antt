@@ -8,8 +8,8 @@ use Rattle.cl_model.specs.Validity.{IsValid}
 use Rattle.cl_model.proofs.GroupFacts.{groups_at_are, groups_at_some}
 use Rattle.cl_runs.specs.{TaskTiming.System, SystemOf.system_of}
 use Rattle.cl_runs.proofs.ModelSystem.{system_sound}
-use Rattle.cl_bound.specs.{Bounds.Lengths, Hops.{saves, lag}, SettledChains.IsGroupOfTask, declared.group_timing.GroupTiming.GroupTiming}
-use Rattle.cl_bound.proofs.ModelGroups.{group_of_system}
+use Rattle.cl_hop.specs.{Bounds.Lengths, Hops.{saves, lag}, Timings.IsGroupOfTask, declared.group_timing.GroupTiming.GroupTiming}
+use Rattle.cl_hop.proofs.ModelGroups.{group_of_system}
 use Rattle.cl_phase.specs.{declared.{stop.Stop.Stop, whole.WholeWalk.WholeWalk}, Pace.{IsPace, previous}, Walks.{pace_at, lag_at, last_place}, TightBounds.{stops_of, span_of, last_write, slowest, hyperperiod_in, starts, ticks_or_none, bounds_from, tight_bounds}, Walked.lasts_from}
 use Rattle.cl_phase.specs.{Walked.walk_start, Whole.{missed_at, taken_at, counted_at}, CompleteChains.AreSomeTicks}
 use Rattle.cl_phase.proofs.{LongestStarts.{LastsFromStart, longest_from_start}, StopFacts.{length_stops, stop_lag, stop_is_pace, stops_slowest}, PaceSteps.paces_step, ShownStarts.fails_where}

@@ -4,17 +4,16 @@ use Rattle.std.specs.List.{range_with_len}
 use Rattle.std.proofs.lemmas.Int.{ints}
 use Rattle.cl_model.specs.{declared.{chain.RequirementKind.RequirementKind, group.Group.Group, model.SystemModel.SystemModel}, ByNumber.chain_at, Groups.groups_at, Validity.IsValid}
 use Rattle.cl_runs.specs.{TaskTiming.System, SystemOf.system_of, Requirements.{no_requirement, requirement_at, required_chain}}
-use Rattle.cl_why.proofs.SomeWorst.{some_worst}
-use Rattle.cl_bound.specs.declared.group_timing.GroupTiming.{GroupTiming}
+use Rattle.cl_hop.specs.declared.group_timing.GroupTiming.{GroupTiming}
 use Rattle.cl_phase.specs.{declared.{stop.Stop.Stop, whole.WholeWalk.WholeWalk}, Walks.pace_at, TightBounds.{stops_of, span_of, last_write, slowest, hyperperiod_in}, Walked.walk_start, Whole.{is_kept, missed_at, counted_at, IsMovedWalk, IsWholeWalkOf}}
 use Rattle.cl_analyse.specs.{declared.findings.ChainAnswer.{ChainAnswer, TheVariants.{Bounds, Late}}, Verdicts.limited_bound}
 use Rattle.cl_tight.specs.{TightTimings.tight_timing, TightFindings.{tight_chain_answer_of, tight_chain_answers_of}}
-use Rattle.cl_tight.proofs.{TightChains.tight_answer, TightLists.required_known}
+use Rattle.cl_tight.proofs.{TightChains.tight_answer, TightLists.required_known, TightLengths.tight_late_known}
 use Rattle.cl_report.specs.Report.{chain_line}
-use Rattle.cl_report.proofs.TightLines.{tight_late_known}
 use Rattle.cl_verify.specs.{Decisions.{task_decision_at, decision_at}, VerifyText.{task_decision_line, decision_line}}
 use Rattle.cl_verify.proofs.SomeDecisions.{some_decisions}
 use Rattle.cl_why.specs.{Shares.window_lines, Hops.group_lines, Walks.walk_lines, Reasons.{title, bound_line, IsReasonOfTask, IsReasonOfBound, IsReasonBy, IsReasonOfChain, IsWhyOfTask, IsWhyOfChain, IsWhyOfRequirement}}
+use Rattle.cl_why.proofs.SomeWorst.{some_worst}
 
 unmoved : (moment : ℤ) (turn : ℕ) → moment ≡ (moment +ℤ pos (0 * turn))
 unmoved moment turn = omega (arith, ints)

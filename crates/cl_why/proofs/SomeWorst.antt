@@ -5,13 +5,13 @@ use Rattle.std.specs.List.{list_any}
 use Rattle.std.proofs.lemmas.Bool.{cases_lt, true≢false, eqb-true, eq-eqb}
 use Rattle.std.proofs.lemmas.Int.{ints, by_lt_z}
 use Rattle.cl_model.specs.{declared.{limits.TheConstants.{MOST_TICKS, MOST_RUNNABLES}, model.SystemModel.SystemModel}, Validity.IsValid}
-use Rattle.cl_runs.specs.{SystemOf.system_of, TaskTiming.{System, timing_at}}
+use Rattle.cl_runs.specs.{SystemOf.system_of, TaskTiming.{System, timing_at}, ExecutionTimes.greatest_execution}
 use Rattle.cl_runs.proofs.ModelSystem.{count_is, system_sound}
 use Rattle.cl_stim.specs.{declared.phase.Phase.Phase, Phase.{last_arrival, arrives_at, phase_of}}
 use Rattle.cl_stim.proofs.{ArrivalTests.{arrives_from_test, test_from_arrival}, PhaseSteps.last_before}
 use Rattle.cl_cycle.specs.Cycles.{in_phase_above}
-use Rattle.cl_resp.specs.{declared.{worst.WorstWindow.WorstWindow, question.Block.TheVariants.OfLower}, Asked.{Asked, holds_within, beginnings_of, is_answered, suffices, MayBegin, EndsBy, ComesRound}, Question.{greatest_execution, tight_question_of, IsQuestionInRange}, Worst.within_of}
-use Rattle.cl_resp.specs.{Worst.{NoneEndsBy, IsFirstUnanswered, PassesOrZero, IsWorstWindowOf}, Inner.Worst.{IsLatestUnanswered, AreAnsweredBefore}}
+use Rattle.cl_resp.specs.{declared.{worst.WorstWindow.WorstWindow, question.Block.TheVariants.OfLower}, Asked.{Asked, holds_within, beginnings_of, is_answered, suffices, MayBegin, EndsBy, ComesRound}, Question.{tight_question_of, IsQuestionInRange}, Worst.{within_of, NoneEndsBy}}
+use Rattle.cl_resp.specs.{Worst.{IsFirstUnanswered, PassesOrZero, IsWorstWindowOf}, Inner.Worst.{IsLatestUnanswered, AreAnsweredBefore}}
 use Rattle.cl_resp.proofs.{LeastRound.asked_comes_round, Questions.questions_in_range, PhasedQuestions.{is_question, question_in_range}, SearchedStarts.{IsBack, back_to, ends_by, answered_at, answered_from, suffices_from}, WorstBeginnings.{never_both, none_ends, latest_is, first_is}}
 use Rattle.cl_resp.proofs.{WorstCandidates.{in_bounds_of, follows_0}, WorstTasks.{same_asked, worst_fixed, worst_other}, WorstWithin.{arrivals_lack, candidates_lack}}
 

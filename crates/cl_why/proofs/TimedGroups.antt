@@ -8,9 +8,9 @@ use Rattle.std.proofs.lemmas.List.{get_or-map, flat_map_more}
 use Rattle.cl_text.proofs.MoreLines.{range_more}
 use Rattle.cl_model.specs.{declared.{model.SystemModel.SystemModel, chain.RequirementKind.RequirementKind}, Groups.{no_group, groups_at}}
 use Rattle.cl_runs.specs.SystemOf.{system_of}
-use Rattle.cl_bound.specs.{declared.group_timing.GroupTiming.GroupTiming, Hops.lag}
-use Rattle.cl_tight.specs.TightTimings.{tight_timing}
+use Rattle.cl_hop.specs.{declared.group_timing.GroupTiming.GroupTiming, Hops.lag}
 use Rattle.cl_phase.specs.declared.whole.WholeWalk.{WholeWalk}
+use Rattle.cl_tight.specs.TightTimings.{tight_timing}
 use Rattle.cl_explain.specs.Explanation.{hop_head}
 use Rattle.cl_why.specs.{Hops.{timing_at_place, kept_at, missed_by, missed_by_words, lag_words, hop_line}, Walks.{first_missed, missed_lines, taken_lines, walk_from, walk_to, length_line, read_of_first, write_of_last, walk_lines}}
 

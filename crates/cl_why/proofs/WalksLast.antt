@@ -4,8 +4,8 @@ use Rattle.std.proofs.lemmas.Bool.{cases_lt, eq-eqb}
 use Rattle.std.proofs.lemmas.Int.{ints}
 use Rattle.std.proofs.lemmas.List.FromFn.{length-map-range_with_len, get_or-map-range_with_len}
 use Rattle.cl_model.specs.{declared.{chain.{LengthKind.TheVariants.{Reaction, Age, Reduced}, RequirementKind.{RequirementKind, TheVariants.{Length, Delay}}}, group.Group.Group}, Groups.group_at}
-use Rattle.cl_bound.specs.declared.group_timing.GroupTiming.{GroupTiming}
-use Rattle.cl_bound.proofs.AlongChains.{last_timing}
+use Rattle.cl_hop.specs.declared.group_timing.GroupTiming.{GroupTiming}
+use Rattle.cl_hop.proofs.AlongChains.{last_timing}
 use Rattle.cl_phase.specs.{declared.{pace.Pace.Pace, stop.Stop.Stop, whole.WholeWalk.WholeWalk}, Pace.{IsPace, previous, next}, Walks.{pace_at, last_place, onward, back, arrival_at_first, arrival_at_last}, TightBounds.{span_of, last_write, slowest, hyperperiod_in}, Walked.walk_start}
 use Rattle.cl_phase.specs.Whole.{missed_at, taken_at, counted_at, IsMovedWalk}
 use Rattle.cl_phase.proofs.{DelaySteps.{next_past, next_of_previous}, LongestStarts.LastsFromStart, PaceSteps.paces_step, WalkStarts.IsArrivalAt, WholeWalks.{missed_back, taken_onward, taken_before}}

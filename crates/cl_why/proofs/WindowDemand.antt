@@ -7,15 +7,15 @@ use Rattle.std.proofs.lemmas.Bool.{cases_lt}
 use Rattle.std.proofs.lemmas.Int.{ints, by_lt_z}
 use Rattle.std.proofs.lemmas.List.Sums.{sum_by-le-sum_by}
 use Rattle.cl_model.specs.{declared.stimulus.StimulusKind.StimulusKind, Timing.greatest_jitter}
-use Rattle.cl_runs.specs.{TaskTiming.{System, timing_at, IsSound}, Priorities.tasks_above}
+use Rattle.cl_runs.specs.{TaskTiming.{System, timing_at, IsSound}, Priorities.tasks_above, ExecutionTimes.greatest_execution}
 use Rattle.cl_stim.specs.{declared.phase.Phase.Phase, Phase.{IsArrivalOf, last_arrival, phase_of}}
 use Rattle.cl_stim.proofs.{PhaseSteps.{last_before, last_within}, Releases.most_rises}
 use Rattle.cl_cycle.specs.{Counts.each_moment, Cycles.{is_one_of, in_phase_above, cycle_of}}
 use Rattle.cl_cycle.proofs.CountedTicks.{wider_has}
-use Rattle.cl_resp.specs.{declared.worst.WorstWindow.WorstWindow, Asked.{Asked, MayBegin, EndsBy, AnswersWithin, ComesRound}, ByPhase.{phase_if, released_by, time_by, demand_by, asked_by_phase}, Question.greatest_execution, Worst.{within_of, NoneEndsBy, IsCandidate, IsWorstBy}}
+use Rattle.cl_resp.specs.{declared.worst.WorstWindow.WorstWindow, Asked.{Asked, MayBegin, EndsBy, AnswersWithin, ComesRound}, ByPhase.{phase_if, released_by, time_by, demand_by, asked_by_phase}, Worst.{within_of, NoneEndsBy, IsCandidate, IsWorstBy}}
 use Rattle.cl_resp.proofs.{LeastMoved.{ComesIn, whole_cycles, ends_later}, LeastRound.asked_comes_round, PhasedAnswers.through_between}
-use Rattle.cl_near.specs.Plans.{IsWindowOfRun}
 use Rattle.cl_phase.specs.TightBounds.{ticks_or_none}
+use Rattle.cl_near.specs.Plans.{IsWindowOfRun}
 
 -- ---- numbers
 

@@ -2,13 +2,14 @@
 use Rattle.std.proofs.Common.{◌≡◌, ℕ, ◌+◌, ◌*◌, ◌<◌, ◌≤◌, true, false, Option, Some, None, unwrap_or, ℤ, pos, ◌-ℤ◌, length, refl, sym, ap, ◌∙◌, subst, arith}
 use Rattle.cl_model.specs.{declared.{model.SystemModel.SystemModel, stimulus.StimulusKind.{StimulusKind, TheVariants.{Periodic, Sporadic, Burst}}}, ByNumber.{stimulus_of, jitter_of, time_of}, Ranges.IsKindInRange, Timing.greatest_jitter, Validity.IsValid}
 use Rattle.cl_model.proofs.ValidTasks.{kind_in_range}
-use Rattle.cl_runs.specs.{TaskTiming.{Timing, timing_at}, SystemOf.system_of}
+use Rattle.cl_runs.specs.{TaskTiming.{Timing, timing_at}, SystemOf.system_of, ExecutionTimes.greatest_execution}
 use Rattle.cl_runs.proofs.ModelSystem.{count_is, system_sound, timing_is}
 use Rattle.cl_stim.specs.{declared.phase.Phase.Phase, AnyStimulus.{kind_of, as_stimulus}, Phase.phase_of, Releases.most_releases}
+use Rattle.cl_stim.proofs.StimulusKinds.{kind_of-as_stimulus}
 use Rattle.cl_cycle.specs.{Counts.{arrivals_from, arrivals_of, each_moment}, Cycles.{is_one_of, in_phase_above}}
 use Rattle.cl_cycle.proofs.CycleMembers.{members_come_round}
-use Rattle.cl_resp.specs.{declared.worst.WorstWindow.WorstWindow, ByPhase.{phase_if, released_by}, Question.greatest_execution}
-use Rattle.cl_resp.proofs.{Questions.time_is, StimulusKinds.kind_of-as_stimulus}
+use Rattle.cl_resp.specs.{declared.worst.WorstWindow.WorstWindow, ByPhase.{phase_if, released_by}}
+use Rattle.cl_resp.proofs.Questions.{time_is}
 use Rattle.cl_why.specs.Windows.{width_of, jobs_in_window, time_in_window}
 
 few : (kind : StimulusKind) → IsKindInRange kind → greatest_jitter kind ≤ 1000000000000

@@ -3,9 +3,9 @@ use Rattle.std.proofs.Common.{◌≡◌, ℕ, ◌-◌, ◌<◌, ◌≤◌, Optio
 use Rattle.std.specs.Option.{option_map}
 use Rattle.std.proofs.lemmas.Int.{ints}
 use Rattle.cl_model.specs.{declared.model.SystemModel.SystemModel, Validity.IsValid}
-use Rattle.cl_runs.specs.{TaskTiming.{System, timing_at, IsSound}, SystemOf.system_of}
+use Rattle.cl_runs.specs.{TaskTiming.{System, timing_at, IsSound}, SystemOf.system_of, ExecutionTimes.greatest_execution}
 use Rattle.cl_runs.proofs.ModelSystem.{count_is, system_sound}
-use Rattle.cl_resp.specs.{declared.worst.WorstWindow.WorstWindow, Asked.Asked, ByPhase.{demand_by, asked_by_phase, response_by_phase}, Question.greatest_execution, Response.Response, Worst.{less_than, within_of}}
+use Rattle.cl_resp.specs.{declared.worst.WorstWindow.WorstWindow, Asked.Asked, ByPhase.{demand_by, asked_by_phase, response_by_phase}, Response.Response, Worst.{less_than, within_of}}
 use Rattle.cl_resp.proofs.LeastParts.{settled_least}
 use Rattle.cl_bound.specs.{declared.answer.TaskAnswer.{TaskAnswer, TheVariants.{Settled, Late}}, Answers.{answer_at, answer_with, is_late, response_in}}
 use Rattle.cl_phase.specs.TightBounds.{ticks_or_none}

@@ -5,7 +5,7 @@ use Rattle.std.specs.List.{flat_map, range_with_len}
 use Rattle.cl_text.specs.Line.{line}
 use Rattle.cl_model.specs.{declared.model.SystemModel.SystemModel, Groups.{group_at, groups_at}}
 use Rattle.cl_runs.specs.SystemOf.{system_of}
-use Rattle.cl_bound.specs.{Hops.lag, declared.group_timing.GroupTiming.GroupTiming}
+use Rattle.cl_hop.specs.{Hops.lag, declared.group_timing.GroupTiming.GroupTiming}
 use Rattle.cl_phase.specs.declared.whole.WholeWalk.{WholeWalk}
 use Rattle.cl_tight.specs.TightTimings.{tight_timing}
 use Rattle.cl_explain.specs.Explanation.{group_words, hop_head}

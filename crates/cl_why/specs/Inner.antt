@@ -3,9 +3,9 @@ use Rattle.std.specs.Prelude.{◌≡◌, ℕ, ℤ, ◌<◌, Bool, List, ◌++◌
 use Rattle.std.specs.Fmt.{signed_decimal}
 use Rattle.cl_text.specs.Line.{line}
 use Rattle.cl_model.specs.{declared.{group.Group.Group, model.SystemModel.SystemModel}, ByNumber.task_at}
-use Rattle.cl_runs.specs.{TaskTiming.timing_at, SystemOf.system_of}
+use Rattle.cl_runs.specs.{TaskTiming.timing_at, SystemOf.system_of, ExecutionTimes.greatest_execution}
 use Rattle.cl_cycle.specs.Promises.{IsCycleOf}
-use Rattle.cl_resp.specs.{declared.worst.WorstWindow.WorstWindow, Question.{greatest_execution, lower_block_of}}
+use Rattle.cl_resp.specs.{declared.worst.WorstWindow.WorstWindow, Question.lower_block_of}
 use Rattle.cl_phase.specs.declared.whole.WholeWalk.{WholeWalk}
 use Rattle.cl_near.specs.Plans.{IsWindowOfRun, IsWindowNear}
 use Rattle.cl_why.specs.{declared.window.Window.Window, Windows.end_of, Shares.{over_words, free_words}}

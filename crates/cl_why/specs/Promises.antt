@@ -3,9 +3,10 @@
 use Rattle.std.specs.Prelude.{◌≡◌, ℕ, ◌+◌, ◌<◌, ◌≤◌, pos, ◌+ℤ◌, ◌≤ℤ◌, true, false, ◌==◌, if◌then◌else◌, length}
 use Rattle.cl_model.specs.{declared.{chain.RequirementKind.RequirementKind, model.SystemModel.SystemModel}, ByNumber.chain_at, Groups.groups_at}
 use Rattle.cl_runs.specs.SystemOf.{system_of}
+use Rattle.cl_hop.specs.{declared.group_timing.GroupTiming.GroupTiming, Bounds.Lengths, Hops.{saves, lag}}
 use Rattle.cl_resp.specs.{declared.worst.WorstWindow.WorstWindow, Response.Response}
 use Rattle.cl_bound.specs.declared.answer.TaskAnswer.TheVariants as answer
-use Rattle.cl_bound.specs.{declared.group_timing.GroupTiming.GroupTiming, Answers.answer_at, Bounds.Lengths, Hops.{saves, lag}}
+use Rattle.cl_bound.specs.Answers.{answer_at}
 use Rattle.cl_phase.specs.{declared.whole.WholeWalk.WholeWalk, Whole.IsWholeWalkOf}
 use Rattle.cl_analyse.specs.{declared.findings.ChainAnswer.TheVariants.Bounds, Verdicts.limited_bound}
 use Rattle.cl_tight.specs.{TightAnswers.tight_answers_of, TightTimings.tight_timing, TightFindings.tight_chain_answer_of}

@@ -4,9 +4,9 @@ use Rattle.std.specs.Fmt.{signed_decimal}
 use Rattle.std.specs.List.{flat_map, range_with_len}
 use Rattle.cl_text.specs.Line.{line}
 use Rattle.cl_model.specs.{declared.model.SystemModel.SystemModel, ByNumber.task_at}
-use Rattle.cl_runs.specs.{TaskTiming.timing_at, SystemOf.system_of, Priorities.is_above}
+use Rattle.cl_runs.specs.{TaskTiming.timing_at, SystemOf.system_of, Priorities.is_above, ExecutionTimes.greatest_execution}
 use Rattle.cl_cycle.specs.Cycles.{is_one_of, in_phase_above}
-use Rattle.cl_resp.specs.{declared.{question.Block.TheVariants.OfLower, worst.WorstWindow.WorstWindow}, Question.{greatest_execution, lower_block_of}}
+use Rattle.cl_resp.specs.{declared.{question.Block.TheVariants.OfLower, worst.WorstWindow.WorstWindow}, Question.lower_block_of}
 use Rattle.cl_explain.specs.Parts.{where_some, blocker_of}
 use Rattle.cl_why.specs.Windows.{end_of, jobs_in_window, time_in_window, time_past_window}
 

@@ -1,9 +1,9 @@
 -- The worst window of a task, and what is asked of it. Times are in ticks, and moments may lie before 0.
 use Rattle.std.specs.Prelude.{ℕ, ◌+◌, ◌-◌, ℤ, pos, ◌+ℤ◌, ◌-ℤ◌, sum_by}
 use Rattle.cl_model.specs.declared.model.SystemModel.{SystemModel}
-use Rattle.cl_runs.specs.{TaskTiming.timing_at, SystemOf.system_of, Priorities.tasks_above}
+use Rattle.cl_runs.specs.{TaskTiming.timing_at, SystemOf.system_of, Priorities.tasks_above, ExecutionTimes.greatest_execution}
 use Rattle.cl_cycle.specs.Cycles.{is_one_of, in_phase_above}
-use Rattle.cl_resp.specs.{declared.worst.WorstWindow.WorstWindow, ByPhase.{phase_if, released_by, time_by}, Question.{greatest_execution, lower_block_of}}
+use Rattle.cl_resp.specs.{declared.worst.WorstWindow.WorstWindow, ByPhase.{phase_if, released_by, time_by}, Question.lower_block_of}
 use Rattle.cl_bound.specs.{declared.answer.TaskAnswer.{TaskAnswer, TheVariants.{Settled, Late}}, Answers.answer_at}
 use Rattle.cl_phase.specs.TightBounds.{ticks_or_none}
 use Rattle.cl_tight.specs.TightAnswers.{tight_answers_of}

@@ -7,8 +7,8 @@ ghost use Rattle.cl_tight.specs.TightTimings.{tight_timing};
 ghost use Rattle.cl_stim.specs.Integers.{IsIntegerWithin};
 ghost use Rattle.cl_why.specs.{Hops.{missed_at, taken_at, group_line, missed_by_words, lag_words, hop_line, group_lines}, Shares.free_words, Inner.HasJobsOf};
 
-use cl_bound::GroupTiming;
 use cl_explain::{put_group_words, put_hop_head, put_signed};
+use cl_hop::GroupTiming;
 use cl_model::ValidModel;
 use cl_phase::WholeWalk;
 use cl_text::Text;

@@ -6,8 +6,8 @@ ghost use Rattle.cl_runs.specs.SystemOf.{system_of};
 ghost use Rattle.cl_tight.specs.TightTimings.{tight_timing};
 ghost use Rattle.cl_why.specs.{Walks.{first_missed, walk_from, walk_to, job_line, missed_lines, taken_lines, length_line, walk_lines}, Inner.HasJobsOf};
 
-use cl_bound::GroupTiming;
 use cl_explain::{put_arrival_words, put_signed};
+use cl_hop::GroupTiming;
 use cl_model::{RequirementKind, ValidModel};
 use cl_phase::WholeWalk;
 use cl_report::put_chain_name;

@@ -2,7 +2,8 @@
 ghost use Rattle.std.specs.Prelude.{List, map, All};
 ghost use Rattle.cl_model.specs.declared.group.Group.{Group};
 ghost use Rattle.cl_runs.specs.TaskTiming.{System, IsSound};
-ghost use Rattle.cl_bound.specs.{Bounds.{Lengths, AreBoundsOf, bounds_of}, Promises.AreSafe, SettledChains.IsSettledChain, Timings.AlwaysKeeps, declared.group_timing.GroupTiming.GroupTiming};
+ghost use Rattle.cl_hop.specs.{Bounds.{Lengths, AreBoundsOf}, Promises.AreSafe, Timings.AlwaysKeeps, declared.group_timing.GroupTiming.GroupTiming};
+ghost use Rattle.cl_bound.specs.{Bounds.bounds_of, SettledChains.IsSettledChain};
 
 /// The bounds of a settled chain, and those over any timings that always hold, are at least the
 /// reaction, the age and the reduced age of each complete job chain, and each delay, in each legal

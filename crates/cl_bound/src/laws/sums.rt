@@ -1,11 +1,10 @@
 //! The bounds of a settled chain are the sums that define them. They are positive and at most two
-//! of the greatest distances for each group, the same for the reaction and the age, and no greater
-//! where responses aren't.
-ghost use Rattle.std.specs.Prelude.{◌≡◌, ℕ, ◌*◌, ◌<◌, ◌≤◌, List, length, map, All};
+//! of the greatest distances for each group, and the same for the reaction and the age.
+ghost use Rattle.std.specs.Prelude.{◌≡◌, ℕ, ◌*◌, ◌<◌, ◌≤◌, List, length, map};
 ghost use Rattle.cl_model.specs.declared.group.Group.{Group};
 ghost use Rattle.cl_runs.specs.TaskTiming.{System, IsSound};
-ghost use Rattle.cl_bound.specs.{declared.group_timing.GroupTiming.GroupTiming, Bounds.{greatest_reaction, greatest_age, Lengths, AreBoundsOf, settled_timings, bounds_of}, Ends.{ends_of, lags}, Hops.group_timing, NoGreater.{StaysWithin, AreNoGreater}, SettledChains.IsSettledChain};
-ghost use Rattle.cl_bound.specs.SettledChains.{AreWithin};
+ghost use Rattle.cl_hop.specs.{declared.group_timing.GroupTiming.GroupTiming, Bounds.{greatest_reaction, greatest_age, Lengths, AreBoundsOf}, Ends.{ends_of, lags}};
+ghost use Rattle.cl_bound.specs.{Bounds.{settled_timings, bounds_of}, SettledChains.{IsSettledChain, AreWithin}};
 
 /// The bounds that `bounds_of` gives for a settled chain are the sums over signed numbers that
 /// define them, and no other numbers are.
@@ -67,18 +66,4 @@ pub fn reaction_equals_age()
     ensures sums { (groups : List GroupTiming) → greatest_reaction groups ≡ greatest_age groups }
     ensures bounds { (system : System) (groups : List Group)
         → (bounds_of system groups).reaction ≡ (bounds_of system groups).age }
-{}
-
-/// Smaller responses never make bounds greater: the window of a group stays within another where
-/// the response of its task is no greater, and where the windows of groups stay within others, none
-/// of their bounds is greater.
-pub fn bounds_grow_with_responses()
-    ensures writes { (system : System) (responses others : ℕ → ℕ) (group : Group)
-        → responses group.task ≤ others group.task
-        → StaysWithin (group_timing system responses group) (group_timing system others group) }
-    ensures bounds { (timing other : Group → GroupTiming) (groups : List Group)
-        → All (λ (group : Group). StaysWithin (timing group) (other group)) groups
-        → (bounds others : Lengths) → AreBoundsOf (map timing groups) bounds
-        → AreBoundsOf (map other groups) others
-        → AreNoGreater bounds others }
 {}

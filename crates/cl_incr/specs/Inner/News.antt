@@ -2,7 +2,8 @@
 use Rattle.std.specs.Prelude.{◌≡◌, ℕ, ◌<◌, ◌⊎◌, List, length, map, All, Contains}
 use Rattle.cl_model.specs.declared.model.SystemModel.{SystemModel}
 use Rattle.cl_runs.specs.{SystemOf.system_of, Requirements.{required_chain, requirement_at}}
-use Rattle.cl_bound.specs.{Answers.answers_of, Bounds.Lengths}
+use Rattle.cl_hop.specs.Bounds.{Lengths}
+use Rattle.cl_bound.specs.Answers.{answers_of}
 use Rattle.cl_analyse.specs.declared.findings.ChainAnswer.{ChainAnswer, TheVariants.Bounds}
 use Rattle.cl_incr.specs.{declared.{chains.ChainFindings.ChainFindings, news.{FoundChain.FoundChain, News.News}, shift.Shift.{Shift, TheVariants.{Stays, At}}}, Inner.Kept.AreFoundOf}
 

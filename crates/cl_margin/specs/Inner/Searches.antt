@@ -5,7 +5,7 @@ use Rattle.cl_runs.specs.{Requirements.{requirement_at, required_chain}, SystemO
 use Rattle.cl_bound.specs.Answers.{answer_at, is_late}
 use Rattle.cl_analyse.specs.{declared.findings.ChainAnswer.{ChainAnswer, TheVariants.{Bounds, Late}}, ChainAnswers.chain_answer_at}
 use Rattle.cl_tight.specs.{TightAnswers.tight_answers_of, TightFindings.{tight_chain_answers_of, tight_findings_of}}
-use Rattle.cl_tune.specs.declared.percent.TheConstants.{MOST_PERCENT}
+use Rattle.cl_scale.specs.declared.percent.TheConstants.{MOST_PERCENT}
 use Rattle.cl_margin.specs.{declared.{allowed.Allowed.Allowed, searching.{Item.{Item, TheVariants.{Task, Chain}}, Search.Search}, whose.Whose.Whose}, Grown.grown, Margins.{is_met_task, is_met_requirement, KeepsMet}, Inner.Allowing.{any_allowed, most_bounds, allows, allows_answer}}
 use Rattle.cl_margin.specs.Inner.{Allowing.allowed_at, Trials.IsTrialAt}
 

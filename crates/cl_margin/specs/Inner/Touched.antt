@@ -2,7 +2,7 @@
 use Rattle.std.specs.Prelude.{ℕ, ◌<◌, ◌≤◌, ◌==◌, ◌&&◌, ◌||◌, Bool, true, nat_le, length}
 use Rattle.std.specs.List.{list_all, list_any}
 use Rattle.cl_model.specs.{declared.{group.Group.Group, limits.TheConstants.MOST_TICKS, model.SystemModel.SystemModel, task.{RunnableDef.RunnableDef, TaskDef.TaskDef}}, ByNumber.{task_at, core_of}, Groups.groups_at, Ranges.IsInRange}
-use Rattle.cl_tune.specs.declared.percent.TheConstants.{MOST_PERCENT}
+use Rattle.cl_scale.specs.declared.percent.TheConstants.{MOST_PERCENT}
 use Rattle.cl_margin.specs.{declared.whose.Whose.{Whose, TheVariants.{EveryTask, OneTask}}, Grown.{grown, grown_greatest}}
 
 -- a runnable of a task runs whole

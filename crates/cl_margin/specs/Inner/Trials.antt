@@ -4,7 +4,8 @@ use Rattle.std.specs.List.{range_with_len}
 use Rattle.cl_model.specs.{declared.{group.Group.Group, model.SystemModel.SystemModel}, Validity.IsValid}
 use Rattle.cl_runs.specs.{SystemOf.system_of, TaskTiming.System}
 use Rattle.cl_cycle.specs.{declared.cycle.Cycle.Cycle, Promises.IsCycleOf}
-use Rattle.cl_bound.specs.{declared.{answer.TaskAnswer.TaskAnswer, group_timing.GroupTiming.GroupTiming}, Answers.{answer_at, is_late}, Hops.IsNear}
+use Rattle.cl_hop.specs.{declared.group_timing.GroupTiming.GroupTiming, Hops.IsNear}
+use Rattle.cl_bound.specs.{declared.answer.TaskAnswer.TaskAnswer, Answers.{answer_at, is_late}}
 use Rattle.cl_tight.specs.{declared.findings.TightFindings.TightFindings, Found.{number_found, AreWindowsOf}, TightAnswers.tight_answers_of, TightFindings.tight_findings_of, TightTimings.tight_timing}
 use Rattle.cl_margin.specs.{declared.{allowed.Allowed.Allowed, trial.Trial.Trial, whose.Whose.Whose}, Grown.grown, Inner.{Allowing.AreAllowed, Touched.touches}}
 

@@ -2,7 +2,7 @@
 use Rattle.std.specs.Prelude.{◌≡◌, ℤ, pos, List, [], ◌∷◌, map}
 use Rattle.cl_model.specs.declared.group.Group.{Group}
 use Rattle.cl_runs.specs.TaskTiming.{System}
-use Rattle.cl_bound.specs.{Hops.lag, declared.group_timing.GroupTiming.GroupTiming}
+use Rattle.cl_hop.specs.{Hops.lag, declared.group_timing.GroupTiming.GroupTiming}
 use Rattle.cl_phase.specs.{declared.course.Course.Course, TightBounds.{stops_of, span_of, last_write}, Inner.{Ranges.{AreStopsInRange, AreEndsInRange}, Longest.span_between, Keeping.AreKeptIn}}
 
 -- the lag from the first of some groups to the next one, 0 where there is none

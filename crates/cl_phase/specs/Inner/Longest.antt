@@ -2,7 +2,7 @@
 use Rattle.std.specs.Prelude.{ℕ, ℤ, pos, ◌-ℤ◌, max, List}
 use Rattle.cl_model.specs.{Holds.greatest_by, declared.chain.{LengthKind.TheVariants.{Reaction, Age, Reduced}, RequirementKind.RequirementKind}}
 use Rattle.cl_model.specs.declared.chain.RequirementKind.TheVariants as kind
-use Rattle.cl_bound.specs.Bounds.{Lengths}
+use Rattle.cl_hop.specs.Bounds.{Lengths}
 use Rattle.cl_phase.specs.{declared.{stop.Stop.Stop, walk.{Ends.Ends, Longest.Longest}}, TightBounds.{ticks_or_none, length_from, reduced_from, delay_from}}
 
 -- the latest write less the earliest read

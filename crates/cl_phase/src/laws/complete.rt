@@ -3,7 +3,7 @@
 ghost use Rattle.std.specs.Prelude.{◌<◌, List, length, All};
 ghost use Rattle.cl_model.specs.declared.group.Group.{Group};
 ghost use Rattle.cl_runs.specs.TaskTiming.{System, IsSound};
-ghost use Rattle.cl_bound.specs.{Timings.AlwaysKeeps, declared.group_timing.GroupTiming.GroupTiming};
+ghost use Rattle.cl_hop.specs.{Timings.AlwaysKeeps, declared.group_timing.GroupTiming.GroupTiming};
 ghost use Rattle.cl_phase.specs.{CompleteChains.{HasCompleteChains, AreSomeTicks}, TightBounds.tight_bounds};
 
 /// Some legal run has complete chains of each kind along groups whose timings always hold, and each

@@ -2,7 +2,7 @@
 ghost use Rattle.std.specs.Prelude.{◌≡◌, ℕ, ◌+◌, ◌<◌, ◌≤◌, true, List, length, All};
 ghost use Rattle.cl_model.specs.declared.{group.Group.Group, stimulus.StimulusKind.TheVariants.Periodic};
 ghost use Rattle.cl_runs.specs.{TaskTiming.{System, timing_at, IsSound}, Chains.first_group};
-ghost use Rattle.cl_bound.specs.{SettledChains.IsGroupOfTask, Timings.AlwaysKeeps, declared.group_timing.GroupTiming.GroupTiming};
+ghost use Rattle.cl_hop.specs.{Timings.{IsGroupOfTask, AlwaysKeeps}, declared.group_timing.GroupTiming.GroupTiming};
 ghost use Rattle.cl_phase.specs.{EarlyReads.ReadsBeforeNext, TightBounds.tight_bounds};
 
 /// Where the first group reads before its next job arrives, the tight delay is at most the tight

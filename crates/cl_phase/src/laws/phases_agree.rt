@@ -3,7 +3,7 @@ ghost use Rattle.std.specs.Prelude.{◌≡◌, ℕ, ◌<◌, List, length, All};
 ghost use Rattle.cl_model.specs.declared.group.Group.{Group};
 ghost use Rattle.cl_runs.specs.TaskTiming.{System, IsSound};
 ghost use Rattle.cl_stim.specs.declared.phase.Phase.{Phase};
-ghost use Rattle.cl_bound.specs.{SettledChains.IsGroupOfTask, declared.group_timing.GroupTiming.GroupTiming};
+ghost use Rattle.cl_hop.specs.{Timings.IsGroupOfTask, declared.group_timing.GroupTiming.GroupTiming};
 ghost use Rattle.cl_phase.specs.{declared.pace.Pace.TheVariants.Kept, Walks.pace_at, TightBounds.{stops_of, span_of, last_write, bounds_from, tight_bounds}};
 
 /// The walks from any group that keeps its phase give the tight bounds of the chain, whatever is

@@ -2,7 +2,7 @@
 ghost use Rattle.std.specs.Prelude.{List, All};
 ghost use Rattle.cl_model.specs.declared.group.Group.{Group};
 ghost use Rattle.cl_runs.specs.TaskTiming.{System, IsSound};
-ghost use Rattle.cl_bound.specs.{Promises.AreSafe, Timings.AlwaysKeeps, declared.group_timing.GroupTiming.GroupTiming};
+ghost use Rattle.cl_hop.specs.{Promises.AreSafe, Timings.AlwaysKeeps, declared.group_timing.GroupTiming.GroupTiming};
 ghost use Rattle.cl_phase.specs.TightBounds.{tight_bounds};
 
 /// The tight bounds of groups over timings that always hold are at least the reaction, the age and

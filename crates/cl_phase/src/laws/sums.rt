@@ -3,7 +3,7 @@
 ghost use Rattle.std.specs.Prelude.{◌≡◌, ℕ, ◌<◌, List, length, map, All};
 ghost use Rattle.cl_model.specs.declared.group.Group.{Group};
 ghost use Rattle.cl_runs.specs.TaskTiming.{System, timing_at, IsSound};
-ghost use Rattle.cl_bound.specs.{Bounds.{Lengths, AreBoundsOf}, NoGreater.{StaysWithin, AreNoGreater}, SettledChains.IsGroupOfTask, Timings.IsTimingOf, declared.group_timing.GroupTiming.GroupTiming};
+ghost use Rattle.cl_hop.specs.{Bounds.{Lengths, AreBoundsOf}, NoGreater.{StaysWithin, AreNoGreater}, Timings.{IsGroupOfTask, IsTimingOf}, declared.group_timing.GroupTiming.GroupTiming};
 ghost use Rattle.cl_phase.specs.TightBounds.{tight_bounds};
 
 /// No tight bound of a list of groups is greater than the sum of hops of its kind over the same

@@ -1,9 +1,9 @@
 -- The tasks above a task that are in phase, and those that aren't, as its question holds them.
 use Rattle.std.specs.Prelude.{ℕ, Bool, true, false, not, List, map, filter}
 use Rattle.cl_model.specs.Timing.{greatest_jitter}
-use Rattle.cl_runs.specs.{TaskTiming.{System, timing_at}, Priorities.tasks_above}
+use Rattle.cl_runs.specs.{TaskTiming.{System, timing_at}, Priorities.tasks_above, ExecutionTimes.greatest_execution}
 use Rattle.cl_cycle.specs.{Counts.arrivals_of, Cycles.is_one_of}
-use Rattle.cl_resp.specs.{declared.{question.Above.Above, phased.InPhase.InPhase}, Question.{greatest_execution, taken_by}}
+use Rattle.cl_resp.specs.{declared.{question.Above.Above, phased.InPhase.InPhase}, Question.taken_by}
 
 -- whether a task is among those in phase, or whether it isn't
 abbrev pub counts : (in_phase : Bool) → (cycle : List ℕ) → (other : ℕ) → Bool

@@ -2,9 +2,9 @@
 //! are no later than responses that know no phases.
 ghost use Rattle.std.specs.Prelude.{◌≡◌, ℕ, ◌+◌, ◌<◌, ◌≤◌, Bool, false, Some, None, length};
 ghost use Rattle.cl_model.specs.Timing.{greatest_jitter};
-ghost use Rattle.cl_runs.specs.{TaskTiming.{System, timing_at, IsSound}, Responses.{AlwaysFinishesWithin, IsTimely}};
+ghost use Rattle.cl_runs.specs.{TaskTiming.{System, timing_at, IsSound}, Responses.{AlwaysFinishesWithin, IsTimely}, ExecutionTimes.greatest_execution};
 ghost use Rattle.cl_resp.specs.{Asked.{Asked, least_response, AnswersWithin, IsLeastResponse, ComesRound}, ByPhase.{asked_with, asked_by_phase, response_by_phase, response_through, IsSettledByPhase}, Clear.{greatest_through, greatest_behind}, LesserTimes.TakesNoMore};
-ghost use Rattle.cl_resp.specs.{Promises.AlwaysFinishesThrough, Question.greatest_execution, Response.{IsSettled, IsTightlySettled}};
+ghost use Rattle.cl_resp.specs.{Promises.AlwaysFinishesThrough, Response.{IsSettled, IsTightlySettled}};
 
 /// Where all that is asked comes round, its response is the least, from 1 tick up to the deadline,
 /// within which every arrival is answered, in the first cycle or elsewhere. It has none exactly

@@ -1,8 +1,8 @@
 //! The jobs of a legal run in windows that begin at clear moments, by what the run itself releases
 //! there. Responses are the case in which each window holds the most that can be released.
 ghost use Rattle.std.specs.Prelude.{ℕ, ◌+◌, ◌-◌, ◌<◌, ◌≤◌, length};
-ghost use Rattle.cl_runs.specs.{TaskTiming.{System, timing_at, IsSound}, Table.job_at, Run.{Run, jobs_of, executed}, Legal.IsLegal};
-ghost use Rattle.cl_resp.specs.{declared.question.Question.Question, Question.{greatest_execution, AsksEnough}, Response.demand, Clear.{work_of_first, IsClear, IsBeginning, greatest_through, needed, FinishesBy, IsDoneBy}};
+ghost use Rattle.cl_runs.specs.{TaskTiming.{System, timing_at, IsSound}, Table.job_at, Run.{Run, jobs_of, executed}, Legal.IsLegal, ExecutionTimes.greatest_execution};
+ghost use Rattle.cl_resp.specs.{declared.question.Question.Question, Question.AsksEnough, Response.demand, Clear.{work_of_first, IsClear, IsBeginning, greatest_through, needed, FinishesBy, IsDoneBy}};
 
 /// The window of a job begins somewhere, if the jobs before it are done at some clear moment up to
 /// its release; and moment 0 is clear.

@@ -3,8 +3,8 @@
 //! tight question.
 ghost use Rattle.std.specs.Prelude.{◌≡◌, ℕ, ◌+◌, ◌≤◌, Some};
 ghost use Rattle.cl_model.specs.Timing.{greatest_jitter};
-ghost use Rattle.cl_runs.specs.{TaskTiming.{System, timing_at, IsSound}, Responses.{AlwaysFinishesWithin, IsTimely}};
-ghost use Rattle.cl_resp.specs.{declared.question.Question.Question, Question.greatest_execution, Response.{Response, response_to, IsSettled, IsTightlySettled, AsksNoMore, IsAnsweredBy}};
+ghost use Rattle.cl_runs.specs.{TaskTiming.{System, timing_at, IsSound}, Responses.{AlwaysFinishesWithin, IsTimely}, ExecutionTimes.greatest_execution};
+ghost use Rattle.cl_resp.specs.{declared.question.Question.Question, Response.{Response, response_to, IsSettled, IsTightlySettled, AsksNoMore, IsAnsweredBy}};
 
 /// Each job of a settled task of a sound system finishes at most the response after its arrival, in
 /// every legal run that lasts until then, whether or not tasks of higher priority are late.

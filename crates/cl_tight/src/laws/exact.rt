@@ -2,8 +2,8 @@
 ghost use Rattle.std.specs.Prelude.{◌≡◌, ℕ, ◌<◌, ◌≤◌, true, List, length, All};
 ghost use Rattle.cl_model.specs.{declared.{group.Group.Group, limits.TheConstants.MOST_STEPS, model.SystemModel.SystemModel}, Groups.{IsGroupOf, groups_at}, Kinds.is_timed, Validity.IsValid};
 ghost use Rattle.cl_runs.specs.{SystemOf.system_of, TaskTiming.{System, timing_at}};
+ghost use Rattle.cl_hop.specs.declared.group_timing.GroupTiming.{GroupTiming};
 ghost use Rattle.cl_exact.specs.{TimedPeriodic.{are_timed_periodic, is_timed_periodic_chain}, Hyperperiod.IsWithinLimit, ExactLengths.{Witnesses, AreExactLengths}};
-ghost use Rattle.cl_bound.specs.declared.group_timing.GroupTiming.{GroupTiming};
 ghost use Rattle.cl_phase.specs.TightBounds.{tight_bounds};
 ghost use Rattle.cl_tight.specs.{ExactBounds.{AreLengthsOf, IsTimedTiming}, TightTimings.tight_timing};
 

@@ -2,8 +2,9 @@
 ghost use Rattle.std.specs.Prelude.{◌≡◌, ℕ, true, false, All};
 ghost use Rattle.cl_model.specs.{declared.model.SystemModel.SystemModel, Groups.groups_at, Validity.IsValid};
 ghost use Rattle.cl_runs.specs.{Requirements.{requirement_at, required_chain}, SystemOf.system_of};
+ghost use Rattle.cl_hop.specs.{Bounds.Lengths, NoGreater.AreNoGreater};
 ghost use Rattle.cl_resp.specs.LesserTimes.{TakesNoMore};
-ghost use Rattle.cl_bound.specs.{Answers.{answer_at, is_late}, Bounds.Lengths, NoGreater.AreNoGreater};
+ghost use Rattle.cl_bound.specs.Answers.{answer_at, is_late};
 ghost use Rattle.cl_analyse.specs.{declared.findings.ChainAnswer.TheVariants.Bounds, ChainAnswers.chain_answer_at, Verdicts.{verdict_at, is_met}};
 ghost use Rattle.cl_tight.specs.{LongerTimes.{IsNoLonger, DifferInGreatestTimes}, TightFindings.tight_findings_of};
 

@@ -4,7 +4,8 @@ ghost use Rattle.std.specs.Prelude.{◌≡◌, false, List, All};
 ghost use Rattle.cl_model.specs.{declared.{group.Group.Group, model.SystemModel.SystemModel}, Groups.IsGroupOf, Validity.IsValid};
 ghost use Rattle.cl_runs.specs.{SystemOf.system_of, TaskTiming.{System, IsSound}};
 ghost use Rattle.cl_lead.specs.LeastTimes.{HaveSameLeastTimes};
-ghost use Rattle.cl_bound.specs.{Answers.{answers_of, answer_at, is_late, NoneIsLate}, Bounds.settled_timing, Hops.group_timing, NoGreater.{StaysWithin, AreNoGreater}, SettledChains.IsGroupOfTask, Timings.AlwaysKeeps};
+ghost use Rattle.cl_hop.specs.{Hops.group_timing, NoGreater.{StaysWithin, AreNoGreater}, Timings.{IsGroupOfTask, AlwaysKeeps}};
+ghost use Rattle.cl_bound.specs.{Answers.{answers_of, answer_at, is_late, NoneIsLate}, Bounds.settled_timing};
 ghost use Rattle.cl_phase.specs.TightBounds.{tight_bounds};
 ghost use Rattle.cl_tight.specs.{LongerTimes.IsNoLonger, TightAnswers.{tight_answers_of, tight_response}, TightTimings.tight_timing};
 

@@ -1,16 +1,17 @@
 -- The commands on a model that print one text of it.
 use Rattle.std.proofs.Common.{◌≡◌, ℕ, inl, inr, List, refl, sym, ◌∙◌, arith, subst}
 use Rattle.cl_model.specs.{declared.model.SystemModel.SystemModel, Validity.IsValid}
-use Rattle.cl_cut.proofs.OneCutAnswer.{all_safe, all_no_worse}
-use Rattle.cl_designs.specs.{Cuts.IsCutTextOf, Orders.{IsOrderTextOf, IsSafeOrderText}, Headroom.{IsHeadroomTextOf, IsSafeHeadroomText}, Margins.{IsMarginTextOf, IsSafeMarginText}}
-use Rattle.cl_designs.proofs.{MarginTexts.{some_margin_text, one_margin_text, safe_margin_text}, OneText.{some_cut_text, some_order_text, some_headroom_text, one_cut_text, one_order_text, one_headroom_text}, SafeTexts.{safe_order_text, safe_headroom_text}}
-use Rattle.cl_explain.specs.{Explanation.explanation, Promises.IsSafeExplanation}
-use Rattle.cl_explain.proofs.SafelyExplained.{safe_explanation}
-use Rattle.cl_report.specs.{Report.IsReportOf, Tight.tight_text}
-use Rattle.cl_report.proofs.OneReport.{one_report}
-use Rattle.cl_tight.proofs.TightLaws.{verified_in_time}
 use Rattle.cl_write.specs.Texts.{IsTextOf}
 use Rattle.cl_write.proofs.SomeTexts.{some_text}
+use Rattle.cl_tight.proofs.TightLaws.{verified_in_time}
+use Rattle.cl_cut.proofs.OneCutAnswer.{all_safe, all_no_worse}
+use Rattle.cl_report.specs.Report.{IsReportOf}
+use Rattle.cl_report.proofs.OneReport.{one_report}
+use Rattle.cl_tighten.specs.Tight.{tight_text}
+use Rattle.cl_explain.specs.{Explanation.explanation, Promises.IsSafeExplanation}
+use Rattle.cl_explain.proofs.SafelyExplained.{safe_explanation}
+use Rattle.cl_designs.specs.{Cuts.IsCutTextOf, Orders.{IsOrderTextOf, IsSafeOrderText}, Headroom.{IsHeadroomTextOf, IsSafeHeadroomText}, Margins.{IsMarginTextOf, IsSafeMarginText}}
+use Rattle.cl_designs.proofs.{MarginTexts.{some_margin_text, one_margin_text, safe_margin_text}, OneText.{some_cut_text, some_order_text, some_headroom_text, one_cut_text, one_order_text, one_headroom_text}, SafeTexts.{safe_order_text, safe_headroom_text}}
 use Rattle.cl_engine.specs.declared.files.Files.TheVariants as files
 use Rattle.cl_engine.specs.{Content.{Content, Model}, Done.IsDone, Language.IsOfContent}
 use Rattle.cl_top.specs.declared.command.Command.TheVariants as command

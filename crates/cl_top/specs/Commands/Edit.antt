@@ -4,7 +4,8 @@ use Rattle.std.specs.List.{concat, list_any}
 use Rattle.cl_text.specs.Line.{line}
 use Rattle.cl_model.specs.{declared.{model.SystemModel.SystemModel, refusal.{Code.TheVariants.E1, Refusal.Refusal}}, Place.top, Refusal.refusal_text}
 use Rattle.cl_edit.specs.{declared.{edit.Edit.{Edit, TheVariants.{Report, Tighten, Verify}}, edit_lines.ListedEdit.ListedEdit}, Edited.{edited, after}, Reading.{edits_of, AreEditsOf}}
-use Rattle.cl_report.specs.{Report.IsReportOf, Tight.tight_text}
+use Rattle.cl_report.specs.Report.{IsReportOf}
+use Rattle.cl_tighten.specs.Tight.{tight_text}
 use Rattle.cl_verify.specs.VerifyText.{IsVerifyTextOf}
 use Rattle.cl_engine.specs.{declared.{outcome.Outcome.Outcome, status.TheConstants.{DONE, EDITS_REFUSED}}, Content.of_both}
 use Rattle.cl_top.specs.{OfEdits.{edit_at, line_at, HasBadLine}, Headline.{IsSafeReportOf, IsSafeTightReport}, Meaning.{Meaning, on_both, promises_of_both}, Steps.AreFewOfEdits}

@@ -1,15 +1,15 @@
 //! Laws of the numbers that the documentation names: statuses and limits.
 ghost use Rattle.std.specs.Prelude.{◌≡◌};
-ghost use Rattle.cl_edit.specs.declared.limits.TheConstants.{MOST_EDITS, MOST_REPORTS};
-ghost use Rattle.cl_exact.specs.declared.limit.TheConstants.{MOST_FIRST_JOBS};
-ghost use Rattle.cl_gen.specs.declared.limits.TheConstants.{MOST_RUN_TICKS, MOST_EXECUTIONS};
 ghost use Rattle.cl_model.specs.declared.limits.TheConstants.{MOST_TICKS, MOST_REQUIRED, MOST_PRIORITY, MOST_DISTANCES, LEAST_JOBS_OF_BURST, MOST_JOBS_OF_BURST, MOST_CORES, MOST_STIMULI, MOST_LABELS, MOST_TASKS, MOST_TASKS_OF_CORE, MOST_RUNNABLES, MOST_RUNNABLES_OF_MODEL, MOST_ACCESSES};
 ghost use Rattle.cl_model.specs.declared.{limits.TheConstants.{MOST_CHAINS, MOST_STEPS, MOST_HOPS, MOST_REQUIREMENTS}, name.TheConstants.LONGEST_NAME};
-ghost use Rattle.cl_draw.specs.declared.marks.TheConstants.{MOST_ARRIVALS as MOST_MARKED};
-ghost use Rattle.cl_phase.specs.declared.pace.TheConstants.{MOST_ARRIVALS};
-ghost use Rattle.cl_picture.specs.declared.window.TheConstants.{MOST_WINDOW};
+ghost use Rattle.cl_edit.specs.declared.limits.TheConstants.{MOST_EDITS, MOST_REPORTS};
+ghost use Rattle.cl_gen.specs.declared.limits.TheConstants.{MOST_RUN_TICKS, MOST_EXECUTIONS};
 ghost use Rattle.cl_trace.specs.declared.limits.TheConstants.{MOST_TRACE_TICKS, MOST_TRACE_NUMBER};
-ghost use Rattle.cl_tune.specs.declared.percent.TheConstants.{MOST_PERCENT};
+ghost use Rattle.cl_exact.specs.declared.limit.TheConstants.{MOST_FIRST_JOBS};
+ghost use Rattle.cl_phase.specs.declared.pace.TheConstants.{MOST_ARRIVALS};
+ghost use Rattle.cl_scale.specs.declared.percent.TheConstants.{MOST_PERCENT};
+ghost use Rattle.cl_picture.specs.declared.window.TheConstants.{MOST_WINDOW};
+ghost use Rattle.cl_draw.specs.declared.marks.TheConstants.{MOST_ARRIVALS as MOST_MARKED};
 
 use crate::status::{
     ARGUMENT_NOT_TEXT, DONE, EDITS_REFUSED, LONG_FILE, MODEL_REFUSED, NO_MEMORY, NOT_VERIFIED,

@@ -4,8 +4,8 @@ use Rattle.std.specs.Prelude.{◌≡◌, ℕ, zero, suc, Bool, false, not, ◌&&
 use Rattle.std.specs.List.{list_all, list_any}
 use Rattle.std.specs.Option.{option_map, option_and_then}
 use Rattle.cl_model.specs.{Timing.greatest_jitter, ValidTasks.spans_too_many}
-use Rattle.cl_runs.specs.TaskTiming.{System, timing_at}
-use Rattle.cl_resp.specs.{declared.question.{Above.Above, Question.Question}, Question.{greatest_execution, longest_hold, taken_by}, Response.response_to}
+use Rattle.cl_runs.specs.{TaskTiming.{System, timing_at}, ExecutionTimes.greatest_execution}
+use Rattle.cl_resp.specs.{declared.question.{Above.Above, Question.Question}, Question.{longest_hold, taken_by}, Response.response_to}
 
 -- the tasks of a list but for one
 abbrev pub without : (task : ℕ) → List ℕ → List ℕ

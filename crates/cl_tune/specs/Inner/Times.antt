@@ -6,7 +6,8 @@ use Rattle.cl_model.specs.ByNumber as tasks
 use Rattle.cl_stim.specs.AnyStimulus.{as_stimulus}
 use Rattle.cl_resp.specs.{declared.question.{Above.Above, Question.Question}, Response.response_to}
 use Rattle.cl_bound.specs.Answers.{answer_with, is_late}
-use Rattle.cl_tune.specs.{declared.times.TaskTimes.TaskTimes, Scaled.scaled_time}
+use Rattle.cl_scale.specs.Scaled.{scaled_time}
+use Rattle.cl_tune.specs.declared.times.TaskTimes.{TaskTimes}
 
 -- ---- scaled times
 

@@ -3,7 +3,8 @@ use Rattle.std.proofs.lemmas.List.{length-set}
 use Rattle.std.proofs.lemmas.Int.{ints}
 use Rattle.cl_model.specs.Groups.{no_group}
 use Rattle.cl_runs.specs.SystemOf.{system_of}
-use Rattle.cl_bound.specs.{Bounds.{settled_timings, bounds_of}, Inner.Sums.sums_of}
+use Rattle.cl_hop.specs.Sums.{sums_of}
+use Rattle.cl_bound.specs.Bounds.{settled_timings, bounds_of}
 use Rattle.cl_bound.proofs.FrontBounds.{front_have, front_bound, front_more, more_numbers}
 use Rattle.cl_bound.proofs.bounding.reaction_bounds.Goals as goal
 

@@ -2,7 +2,8 @@ use Rattle.std.proofs.Common.{◌≡◌, ℕ, ◌+◌, ◌-◌, ◌*◌, ◌^◌
 use Rattle.std.specs.Prelude.{slice_index}
 use Rattle.cl_runs.specs.SystemOf.{system_of}
 use Rattle.cl_stim.specs.Integers.{IsIntegerWithin}
-use Rattle.cl_bound.specs.{Bounds.{settled_timings, bounds_of}, Inner.Sums.sums_of}
+use Rattle.cl_hop.specs.Sums.{sums_of}
+use Rattle.cl_bound.specs.Bounds.{settled_timings, bounds_of}
 use Rattle.cl_bound.proofs.bounding.reaction_bounds.Given as goal
 
 abbrev pub invariant-loop-place : goal.invariant-loop-place

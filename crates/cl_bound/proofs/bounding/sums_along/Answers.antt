@@ -3,8 +3,9 @@ use Rattle.std.proofs.lemmas.List.{get_or-map}
 use Rattle.std.proofs.Math.ListN.{length-map}
 use Rattle.cl_model.specs.Groups.{no_group}
 use Rattle.cl_runs.specs.SystemOf.{system_of}
+use Rattle.cl_hop.proofs.LoopSums.{more_sums}
 use Rattle.cl_bound.specs.Bounds.{settled_timing}
-use Rattle.cl_bound.proofs.{LoopSums.more_sums, BoundSums.all_sums}
+use Rattle.cl_bound.proofs.BoundSums.{all_sums}
 use Rattle.cl_bound.proofs.bounding.sums_along.Goals as goal
 
 pub loop-group-preserved : goal.loop-group-preserved

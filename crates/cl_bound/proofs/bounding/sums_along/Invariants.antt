@@ -1,7 +1,8 @@
 use Rattle.std.proofs.Common.{◌≡◌, ◌*◌, ◌^◌, take}
 use Rattle.cl_runs.specs.SystemOf.{system_of}
 use Rattle.cl_stim.specs.Integers.{IsIntegerWithin}
-use Rattle.cl_bound.specs.{Bounds.settled_timings, Inner.Sums.sums_of}
+use Rattle.cl_hop.specs.Sums.{sums_of}
+use Rattle.cl_bound.specs.Bounds.{settled_timings}
 use Rattle.cl_bound.proofs.bounding.sums_along.Given as goal
 
 abbrev pub invariant-loop-group : goal.invariant-loop-group

@@ -1,8 +1,9 @@
 use Rattle.std.proofs.Common.{ℕ, ◌∙◌, arith}
 use Rattle.cl_runs.specs.SystemOf.{system_of}
+use Rattle.cl_hop.proofs.ModelGroups.{timing_with_response}
 use Rattle.cl_resp.proofs.SettledTasks.{execution_in_response}
 use Rattle.cl_bound.specs.Answers.{answers_of, answer_at, response_in}
-use Rattle.cl_bound.proofs.{SettledTasks.in_deadline, ModelGroups.{response_found, settled_response, timing_with_response}}
+use Rattle.cl_bound.proofs.{SettledTasks.in_deadline, ModelGroups.{response_found, settled_response}}
 use Rattle.cl_bound.proofs.bounding.timing_of.Goals as goal
 
 pub of-requires-clause-holds_execution : goal.of-requires-clause-holds_execution

@@ -1,6 +1,6 @@
 use Rattle.std.proofs.Common.{arith}
 use Rattle.cl_text.proofs.MoreLines.{line_more}
-use Rattle.cl_report.proofs.TightLines.{tight_tasks_found}
+use Rattle.cl_tight.proofs.TightLengths.{tight_tasks_found}
 use Rattle.cl_designs.specs.Margins.{late_line}
 use Rattle.cl_designs.proofs.margins.put_late.Goals as goal
 

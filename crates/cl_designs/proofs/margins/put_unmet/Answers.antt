@@ -1,7 +1,7 @@
 use Rattle.std.proofs.Common.{length, ap, arith}
 use Rattle.cl_text.proofs.MoreLines.{line_more}
 use Rattle.cl_model.specs.declared.model.SystemModel.{SystemModel}
-use Rattle.cl_report.proofs.TightLines.{tight_verdicts_found}
+use Rattle.cl_tight.proofs.TightLengths.{tight_verdicts_found}
 use Rattle.cl_designs.specs.Margins.{unmet_line}
 use Rattle.cl_designs.proofs.margins.put_unmet.Goals as goal
 

@@ -1,5 +1,5 @@
 use Rattle.std.proofs.Common.{List, subst, ◌∙◌}
-use Rattle.cl_bound.specs.{declared.group_timing.GroupTiming.GroupTiming, Bounds.AreBoundsOf}
+use Rattle.cl_hop.specs.{declared.group_timing.GroupTiming.GroupTiming, Bounds.AreBoundsOf}
 use Rattle.cl_analyse.proofs.SafeFindings.{bounds_found, answer_of_chain}
 use Rattle.cl_explain.proofs.AddedUp.{groups_sum}
 use Rattle.cl_explain.proofs.laws.groups_add_up_to_bounds.Goals as goal

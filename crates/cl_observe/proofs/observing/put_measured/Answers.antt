@@ -1,8 +1,8 @@
 use Rattle.std.proofs.Common.{length, ap, ◌∙◌}
 use Rattle.std.proofs.Math.ListN.{length-map}
 use Rattle.std.proofs.lemmas.Result.{on_ok_weaker}
-use Rattle.cl_report.proofs.TightLines.{tight_tasks_found, tight_chains_found}
 use Rattle.cl_tight.specs.TightFindings.{tight_chain_answer_of}
+use Rattle.cl_tight.proofs.TightLengths.{tight_tasks_found, tight_chains_found}
 use Rattle.cl_observe.proofs.PutTexts.{all_put}
 use Rattle.cl_observe.proofs.observing.put_measured.Goals as goal
 

@@ -5,7 +5,7 @@ use Rattle.cl_model.specs.Groups.{no_group}
 use Rattle.cl_model.proofs.ValidTasks.{kind_in_range, kind_ordered}
 use Rattle.cl_runs.specs.{TaskTiming.Timing, SystemOf.system_of}
 use Rattle.cl_runs.proofs.ModelSystem.{timing_is}
-use Rattle.cl_bound.specs.declared.group_timing.GroupTiming.{GroupTiming}
+use Rattle.cl_hop.specs.declared.group_timing.GroupTiming.{GroupTiming}
 use Rattle.cl_phase.specs.{declared.stop.Stop.Stop, Inner.Course.first_lag}
 use Rattle.cl_phase.proofs.CourseFacts.{IsCourseTo, course_begins, course_goes_on, course_stops, course_in_range, course_kept, span_by, write_by}
 use Rattle.cl_phase.proofs.course.course_of.Goals as goal

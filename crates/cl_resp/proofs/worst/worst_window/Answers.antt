@@ -4,11 +4,11 @@ use Rattle.std.specs.Option.{option_map}
 use Rattle.std.proofs.lemmas.Bool.{true≢false}
 use Rattle.std.proofs.lemmas.Int.{ints}
 use Rattle.cl_model.specs.{declared.{limits.TheConstants.MOST_TICKS, model.SystemModel.SystemModel, stimulus.StimulusKind.StimulusKind}, ByNumber.stimulus_of}
-use Rattle.cl_runs.specs.{SystemOf.system_of, TaskTiming.{Timing, timing_at}}
+use Rattle.cl_runs.specs.{SystemOf.system_of, TaskTiming.{Timing, timing_at}, ExecutionTimes.greatest_execution}
 use Rattle.cl_runs.proofs.ModelSystem.{timing_is}
 use Rattle.cl_stim.specs.{declared.phase.Phase.Phase, Phase.phase_of}
-use Rattle.cl_resp.specs.{declared.phased.PhasedQuestion.PhasedQuestion, Asked.suffices, ByPhase.response_by_phase, Question.greatest_execution, Response.Response, Worst.{less_than, within_of, IsFirstUnanswered, IsWorstWindowOf}, Inner.Phased.{asked_of, IsPhasedInRange}}
-use Rattle.cl_resp.specs.Inner.{Phased.IsPhasedQuestionOf, Worst.{AreCandidatesAnswered, IsLeastAfter}}
+use Rattle.cl_resp.specs.{declared.phased.PhasedQuestion.PhasedQuestion, Asked.suffices, ByPhase.response_by_phase, Response.Response, Worst.{less_than, within_of, IsFirstUnanswered, IsWorstWindowOf}, Inner.Phased.{asked_of, IsPhasedInRange, IsPhasedQuestionOf}}
+use Rattle.cl_resp.specs.Inner.Worst.{AreCandidatesAnswered, IsLeastAfter}
 use Rattle.cl_resp.proofs.{WorstCandidates.{in_bounds_of, follows_0}, WorstPlaces.held, WorstTasks.{within_below, worst_fixed, worst_other}, WorstWithin.{arrivals_lack, candidates_lack}}
 use Rattle.cl_resp.proofs.worst.worst_window.Goals as goal
 

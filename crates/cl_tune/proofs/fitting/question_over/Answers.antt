@@ -1,7 +1,7 @@
 use Rattle.std.proofs.Common.{◌≡◌, max, sym, ap, ◌∙◌}
 use Rattle.cl_model.specs.{declared.stimulus.StimulusKind.StimulusKind, Timing.greatest_jitter}
-use Rattle.cl_runs.specs.{SystemOf.system_of, TaskTiming.timing_at}
-use Rattle.cl_resp.specs.Question.{greatest_execution, longest_hold}
+use Rattle.cl_runs.specs.{SystemOf.system_of, TaskTiming.timing_at, ExecutionTimes.greatest_execution}
+use Rattle.cl_resp.specs.Question.{longest_hold}
 use Rattle.cl_tune.proofs.Timings.{pattern_is, deadline_is, time_is}
 use Rattle.cl_tune.proofs.fitting.question_over.Goals as goal
 

@@ -1,4 +1,4 @@
-use Rattle.cl_tune.proofs.ScaledValid.{scaled_valid}
+use Rattle.cl_scale.proofs.ScaledValid.{scaled_valid}
 use Rattle.cl_tune.proofs.laws.scaled_models_are_valid.Goals as goal
 
 pub returns : goal.returns

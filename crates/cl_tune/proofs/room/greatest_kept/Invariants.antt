@@ -1,6 +1,7 @@
 use Rattle.std.proofs.Common.{ℕ, ◌+◌, ◌-◌, ◌<◌, ◌≤◌}
 use Rattle.cl_model.specs.declared.model.SystemModel.{SystemModel}
-use Rattle.cl_tune.specs.{declared.percent.TheConstants.MOST_PERCENT, Headroom.Keeps}
+use Rattle.cl_scale.specs.declared.percent.TheConstants.{MOST_PERCENT}
+use Rattle.cl_tune.specs.Headroom.{Keeps}
 use Rattle.cl_tune.proofs.room.greatest_kept.Given as goal
 
 -- what keeps is below, and what doesn't is from the end on

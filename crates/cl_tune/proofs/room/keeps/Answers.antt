@@ -2,7 +2,8 @@ use Rattle.std.proofs.Common.{sym, ap, ◌∙◌, subst}
 use Rattle.std.specs.Prelude.{IfOk, MatchBool}
 use Rattle.std.proofs.lemmas.Bool.{MatchBool-at_true, MatchBool-at_false}
 use Rattle.cl_model.specs.{declared.model.SystemModel.SystemModel, Ranges.IsInRange, Validity.IsValid}
-use Rattle.cl_tune.specs.{Headroom.Keeps, Inner.Times.AreTimely, Scaled.scaled}
+use Rattle.cl_scale.specs.Scaled.{scaled}
+use Rattle.cl_tune.specs.{Headroom.Keeps, Inner.Times.AreTimely}
 use Rattle.cl_tune.proofs.KeptTimes.{tasks_in_range, past_range, in_range, one_a_task, questions_in_range, late_fails, timely_passes}
 use Rattle.cl_tune.proofs.room.keeps.Goals as goal
 

@@ -3,8 +3,10 @@ use Rattle.std.specs.Prelude.{MatchBool}
 use Rattle.std.proofs.lemmas.Bool.{cases_from_iff}
 use Rattle.cl_model.specs.{declared.model.SystemModel.SystemModel, Ranges.IsInRange, Validity.IsValid}
 use Rattle.cl_analyse.specs.{declared.findings.Findings.Findings, Findings.AreFindings}
-use Rattle.cl_tune.specs.{Headroom.Keeps, Scaled.scaled}
-use Rattle.cl_tune.proofs.{KeptFindings.{IsKept, keeping, kept_of}, ScaledValid.scaled_valid}
+use Rattle.cl_scale.specs.Scaled.{scaled}
+use Rattle.cl_scale.proofs.ScaledValid.{scaled_valid}
+use Rattle.cl_tune.specs.Headroom.{Keeps}
+use Rattle.cl_tune.proofs.KeptFindings.{IsKept, keeping, kept_of}
 use Rattle.cl_tune.proofs.room.keeps_by_findings.Goals as goal
 
 module _ (model : SystemModel) (percent : ℕ) (in_range : IsInRange (scaled model percent)) (findings : Findings)

@@ -5,8 +5,7 @@ use Rattle.cl_runs.specs.Requirements.{HasLength}
 use Rattle.cl_bound.specs.{declared.answer.TaskAnswer.TaskAnswer, Answers.NoneIsLate}
 use Rattle.cl_analyse.specs.ChainAnswers.{chain_answer_at}
 use Rattle.cl_tight.specs.TightFindings.{tight_chain_answers_of}
-use Rattle.cl_tight.proofs.TightChains.{tight_given}
-use Rattle.cl_report.proofs.TightLines.{tight_chains_within}
+use Rattle.cl_tight.proofs.{TightChains.tight_given, TightLengths.tight_chains_within}
 use Rattle.cl_verify.specs.Decisions.{IsDecisionByRuns}
 use Rattle.cl_verify.proofs.ByFindings.{tasks_of_findings, chains_of_findings, chain_found, late_by, decided_by_runs}
 use Rattle.cl_verify.proofs.deciding.decide_by_runs.Goals as goal

@@ -5,8 +5,8 @@ use Rattle.cl_model.specs.declared.{model.SystemModel.SystemModel, chain.Require
 use Rattle.cl_runs.specs.Requirements.{required_chain}
 use Rattle.cl_analyse.specs.{declared.findings.Verdict.{Verdict, TheVariants.Unshown}, Verdicts.verdict_at}
 use Rattle.cl_tight.specs.{declared.findings.TightFindings.TightFindings, TightFindings.tight_findings_of}
-use Rattle.cl_tight.proofs.TightLists.{required_known}
-use Rattle.cl_report.proofs.{ReportLines.requirement_found, TightLines.tight_verdicts_found}
+use Rattle.cl_tight.proofs.{TightLists.required_known, TightLengths.tight_verdicts_found}
+use Rattle.cl_report.proofs.ReportLines.{requirement_found}
 use Rattle.cl_verify.proofs.ByFindings.{met_decided, broken_decided, unshown_decided}
 use Rattle.cl_verify.proofs.deciding.decide_requirement.Goals as goal
 

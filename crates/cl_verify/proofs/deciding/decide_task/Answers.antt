@@ -1,7 +1,7 @@
 use Rattle.std.proofs.Common.{ℕ, length, sym, ap, ◌∙◌, subst, arith}
 use Rattle.cl_bound.specs.Answers.{answer_at, is_late}
 use Rattle.cl_tight.specs.TightFindings.{tight_findings_of}
-use Rattle.cl_report.proofs.TightLines.{tight_tasks_found}
+use Rattle.cl_tight.proofs.TightLengths.{tight_tasks_found}
 use Rattle.cl_verify.specs.declared.decision.TaskDecision.TheVariants as task
 use Rattle.cl_verify.specs.Decisions.{IsDecisionOnTask}
 use Rattle.cl_verify.proofs.ByFindings.{answer_found, answer_by_phases, settled_decided}

@@ -4,8 +4,7 @@ use Rattle.cl_model.specs.ByNumber.{no_chain, chain_at}
 use Rattle.cl_analyse.specs.declared.findings.ChainAnswer.TheVariants.{Late}
 use Rattle.cl_analyse.proofs.FirstLate.{settled_groups}
 use Rattle.cl_tight.specs.TightFindings.{tight_chain_answer_of, tight_chain_answers_of}
-use Rattle.cl_tight.proofs.TightLists.{late_answer}
-use Rattle.cl_report.proofs.TightLines.{tight_late_known}
+use Rattle.cl_tight.proofs.{TightLists.late_answer, TightLengths.tight_late_known}
 use Rattle.cl_verify.proofs.witness.witness_of_chain.Goals as goal
 
 pub witness_of_task-requires-clause-task : goal.witness_of_task-requires-clause-task

@@ -1,6 +1,6 @@
 use Rattle.std.proofs.Common.{Bool, List, [], ◌∷◌, ◌++◌, ℕ, false, get_or, ap, ◌∙◌}
 use Rattle.std.proofs.lemmas.Result.{on_ok_weaker}
-use Rattle.cl_bound.specs.declared.group_timing.GroupTiming.{GroupTiming}
+use Rattle.cl_hop.specs.declared.group_timing.GroupTiming.{GroupTiming}
 use Rattle.cl_explain.specs.Explanation.{group_words}
 use Rattle.cl_why.specs.{Shares.free_words, Hops.{timing_at_place, kept_at, group_line}}
 use Rattle.cl_why.proofs.TimedGroups.{timing_found, line_of_two}

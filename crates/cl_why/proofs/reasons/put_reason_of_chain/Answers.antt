@@ -1,8 +1,8 @@
 use Rattle.std.proofs.Common.{sym, ap, ◌∙◌}
 use Rattle.std.proofs.lemmas.Result.{on_ok_weaker}
-use Rattle.cl_bound.specs.Bounds.{Lengths}
+use Rattle.cl_hop.specs.Bounds.{Lengths}
 use Rattle.cl_analyse.specs.Verdicts.{limited_bound}
-use Rattle.cl_report.proofs.TightLines.{tight_chains_within}
+use Rattle.cl_tight.proofs.TightLengths.{tight_chains_within}
 use Rattle.cl_verify.proofs.ByFindings.{chains_of_findings}
 use Rattle.cl_why.proofs.ReasonTexts.{tight_answer_found, bounds_found, late_found, reason_by_bounds, reason_by_late}
 use Rattle.cl_why.proofs.reasons.put_reason_of_chain.Goals as goal

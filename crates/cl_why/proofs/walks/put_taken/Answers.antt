@@ -5,7 +5,7 @@ use Rattle.std.proofs.lemmas.Int.{to_z-of_z}
 use Rattle.std.specs.List.{flat_map, range_with_len}
 use Rattle.cl_text.proofs.MoreLines.{line_more}
 use Rattle.cl_model.specs.Groups.{groups_at}
-use Rattle.cl_bound.specs.declared.group_timing.GroupTiming.{GroupTiming}
+use Rattle.cl_hop.specs.declared.group_timing.GroupTiming.{GroupTiming}
 use Rattle.cl_why.specs.{Hops.{timing_at_place, taken_at}, Walks.job_line}
 use Rattle.cl_why.proofs.TimedGroups.{timing_found}
 use Rattle.cl_why.proofs.walks.put_taken.Goals as goal

@@ -3,7 +3,7 @@ use mir.Syntax.{w128}
 use mir.Val.{of_z, to_z}
 use Rattle.std.proofs.lemmas.Int.{ints, to_z-of_z}
 use Rattle.std.proofs.lemmas.Result.{on_ok_weaker}
-use Rattle.cl_bound.specs.declared.group_timing.GroupTiming.{GroupTiming}
+use Rattle.cl_hop.specs.declared.group_timing.GroupTiming.{GroupTiming}
 use Rattle.cl_why.specs.Hops.{timing_at_place}
 use Rattle.cl_why.proofs.TimedGroups.{timing_found, walk_shown}
 use Rattle.cl_why.proofs.walks.put_walk.Goals as goal

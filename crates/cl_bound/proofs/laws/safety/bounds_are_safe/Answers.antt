@@ -1,4 +1,5 @@
-use Rattle.cl_bound.proofs.{ChainBounds.kept_safe, SettledChains.settled_safe}
+use Rattle.cl_hop.proofs.ChainBounds.{kept_safe}
+use Rattle.cl_bound.proofs.SettledChains.{settled_safe}
 use Rattle.cl_bound.proofs.laws.safety.bounds_are_safe.Goals as goal
 
 pub returns-clause-settled : goal.returns-clause-settled

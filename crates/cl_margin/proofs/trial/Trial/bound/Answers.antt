@@ -3,7 +3,8 @@ use Rattle.std.specs.Prelude.{All}
 use Rattle.std.proofs.lemmas.List.{length-map}
 use Rattle.cl_model.specs.{declared.{group.Group.Group, model.SystemModel.SystemModel}, Groups.{no_group, groups_at}}
 use Rattle.cl_runs.specs.SystemOf.{system_of}
-use Rattle.cl_bound.specs.{Answers.{answer_at, is_late}, Hops.IsNear}
+use Rattle.cl_hop.specs.Hops.{IsNear}
+use Rattle.cl_bound.specs.Answers.{answer_at, is_late}
 use Rattle.cl_phase.specs.TightBounds.{tight_bounds}
 use Rattle.cl_tight.specs.{TightAnswers.tight_answers_of, TightTimings.tight_timing}
 use Rattle.cl_tight.proofs.TightTimings.{count_of_first}

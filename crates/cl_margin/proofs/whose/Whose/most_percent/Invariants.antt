@@ -1,6 +1,6 @@
 use Rattle.std.proofs.Common.{ℕ, ◌-◌, ◌<◌, ◌≤◌}
 use Rattle.cl_model.specs.{declared.model.SystemModel.SystemModel, Ranges.IsInRange}
-use Rattle.cl_tune.specs.declared.percent.TheConstants.{MOST_PERCENT}
+use Rattle.cl_scale.specs.declared.percent.TheConstants.{MOST_PERCENT}
 use Rattle.cl_margin.specs.{declared.whose.Whose.Whose, Grown.grown}
 use Rattle.cl_margin.proofs.whose.Whose.most_percent.Given as goal
 

@@ -1,6 +1,6 @@
 use Rattle.std.proofs.Common.{ap, ◌∙◌}
 use Rattle.cl_runs.specs.SystemOf.{system_of}
-use Rattle.cl_bound.specs.Hops.{timing_in}
+use Rattle.cl_hop.specs.Hops.{timing_in}
 use Rattle.cl_tight.specs.TightTimings.{earliest_read, tight_timing}
 use Rattle.cl_tight.proofs.{NearTimings.tight_near, TightTasks.timely_by_phase}
 use Rattle.cl_tight.proofs.access_windows.AccessWindows.timing_within.Goals as goal

@@ -3,7 +3,7 @@ use Rattle.std.proofs.lemmas.List.{map_more, take_all}
 use Rattle.std.proofs.lemmas.List.Elements.{All-append, All-cons, All-nil}
 use Rattle.cl_model.specs.Groups.{no_group}
 use Rattle.cl_runs.specs.SystemOf.{system_of}
-use Rattle.cl_bound.specs.Hops.{IsNear}
+use Rattle.cl_hop.specs.Hops.{IsNear}
 use Rattle.cl_tight.specs.TightTimings.{tight_timing}
 use Rattle.cl_tight.proofs.TightTimings.{count_of_first}
 use Rattle.cl_tight.proofs.access_windows.AccessWindows.timings.Goals as goal

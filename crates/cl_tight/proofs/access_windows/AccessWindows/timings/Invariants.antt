@@ -1,6 +1,6 @@
 use Rattle.std.proofs.Common.{◌≡◌, take, map, All}
 use Rattle.cl_runs.specs.SystemOf.{system_of}
-use Rattle.cl_bound.specs.Hops.{IsNear}
+use Rattle.cl_hop.specs.Hops.{IsNear}
 use Rattle.cl_tight.specs.{TightTimings.tight_timing, Found.AreWindowsOf}
 use Rattle.cl_tight.proofs.access_windows.AccessWindows.timings.Given as goal
 

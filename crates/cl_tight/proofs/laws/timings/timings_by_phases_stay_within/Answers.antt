@@ -1,6 +1,6 @@
 use Rattle.cl_runs.specs.SystemOf.{system_of}
 use Rattle.cl_runs.proofs.ModelSystem.{system_sound}
-use Rattle.cl_bound.proofs.ModelGroups.{group_of_system}
+use Rattle.cl_hop.proofs.ModelGroups.{group_of_system}
 use Rattle.cl_tight.proofs.PhasedTimings.{stays_by_phase, stays_by_report}
 use Rattle.cl_tight.proofs.laws.timings.timings_by_phases_stay_within.Goals as goal
 

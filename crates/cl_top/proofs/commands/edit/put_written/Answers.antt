@@ -2,7 +2,8 @@ use Rattle.std.proofs.Common.{◌+◌, ◌≤◌, ap, subst, arith}
 use Rattle.std.specs.Prelude.{OnOk}
 use Rattle.cl_model.specs.declared.model.SystemModel.{SystemModel}
 use Rattle.cl_edit.specs.declared.edit.Edit.TheVariants.{Report, Tighten, Verify}
-use Rattle.cl_report.specs.{Report.report_text, Tight.tight_text}
+use Rattle.cl_report.specs.Report.{report_text}
+use Rattle.cl_tighten.specs.Tight.{tight_text}
 use Rattle.cl_top.specs.Steps.{written_steps}
 use Rattle.cl_top.proofs.PutByEdits.{IsPutBy, put_by, put_verified_by, nothing_put, steps_by}
 use Rattle.cl_top.proofs.commands.edit.put_written.Goals as goal

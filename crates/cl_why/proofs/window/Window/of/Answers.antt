@@ -1,7 +1,7 @@
 use Rattle.std.proofs.Common.{◌≡◌, ◌<◌, length, refl, sym, ap, ◌∙◌, arith}
 use Rattle.std.proofs.lemmas.Int.{ints}
-use Rattle.cl_runs.specs.{TaskTiming.{System, Timing, timing_at}, SystemOf.system_of}
-use Rattle.cl_resp.specs.{declared.question.Question.Question, Question.{greatest_execution, lower_block_of, tight_question_of}}
+use Rattle.cl_runs.specs.{TaskTiming.{System, Timing, timing_at}, SystemOf.system_of, ExecutionTimes.greatest_execution}
+use Rattle.cl_resp.specs.{declared.question.Question.Question, Question.{lower_block_of, tight_question_of}}
 use Rattle.cl_bound.specs.Answers.{answer_at}
 use Rattle.cl_tight.proofs.TightTimings.{answer_count}
 use Rattle.cl_report.proofs.ReportLines.{task_answer}

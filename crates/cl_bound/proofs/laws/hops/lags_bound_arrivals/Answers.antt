@@ -1,8 +1,0 @@
-use Rattle.cl_bound.proofs.LagBounds.{forward_lag, backward_lag}
-use Rattle.cl_bound.proofs.laws.hops.lags_bound_arrivals.Goals as goal
-
-pub returns-clause-forward : goal.returns-clause-forward
-returns-clause-forward c = forward_lag
-
-pub returns-clause-backward : goal.returns-clause-backward
-returns-clause-backward c = backward_lag

@@ -1,8 +1,0 @@
-use Rattle.cl_bound.proofs.NoGreater.{stays_within, bounds_no_greater}
-use Rattle.cl_bound.proofs.laws.sums.bounds_grow_with_responses.Goals as goal
-
-pub returns-clause-writes : goal.returns-clause-writes
-returns-clause-writes c = stays_within
-
-pub returns-clause-bounds : goal.returns-clause-bounds
-returns-clause-bounds c = bounds_no_greater

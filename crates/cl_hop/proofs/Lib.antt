@@ -1,0 +1,15 @@
+pub mod GroupWindows
+pub mod ModelGroups
+pub mod HigherFinished
+pub mod KeptWindows
+pub mod LaterRuns
+pub mod ReadsBeforeWrites
+pub mod LagTable
+pub mod LagBounds
+pub mod HopBounds
+pub mod AlongChains
+pub mod ChainBounds
+pub mod SumsOfHops
+pub mod ReactionIsAge
+pub mod LoopSums
+pub mod NoGreater

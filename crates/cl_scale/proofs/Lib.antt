@@ -1,0 +1,3 @@
+pub mod BareModels
+pub mod BareChains
+pub mod ScaledValid

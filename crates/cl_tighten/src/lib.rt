@@ -1,0 +1,6 @@
+//! The text of a model's tight findings.
+#![tactic(auto)]
+
+mod tight;
+
+pub use tight::tight_report;
