@@ -274,7 +274,7 @@ class Model:
         make(self, text.decode())
 
     def to_json(self) -> str:
-        """The model as JSON: the document without its comments, by the schema `schema/model.schema.json`."""
+        """The model as JSON: the document without its comments, as the schema of model files in the folder `schema` of the repository says."""
         return json.dumps(self.document.unwrap(), indent=2) + "\n"
 
     def to_frame(self) -> pandas.DataFrame:

@@ -47,21 +47,22 @@ class Entry:
 
 def _insert(table: tomlkit.items.Table, key: str, value: Any) -> None:
     """Puts a new key behind the last key of a table that isn't a table itself, before blank lines and comments."""
-    last = None
-    for known, item in table.value.body:
-        if known is not None and not isinstance(item, tomlkit.items.Table | tomlkit.items.AoT):
-            last = known
+    body = table.value.body
+    places = [
+        place
+        for place, (known, item) in enumerate(body)
+        if known is not None and not isinstance(item, tomlkit.items.Table | tomlkit.items.AoT)
+    ]
     item = tomlkit.item(value)
-    if last is None:
+    if not places or places[-1] + 1 >= len(body):
         table[key] = item
-    else:
-        at = next(number for number, (known, _) in enumerate(table.value.body) if known == last)
-        before = table.value.body[at][1]
-        item.trivia.indent = before.trivia.indent
-        if not before.trivia.trail.endswith("\n"):
-            before.trivia.trail += "\n"
-        table.value._insert_at(at + 1, tomlkit.items.SingleKey(key), item)
-        dict.__setitem__(table, key, item)
+        return
+    before = body[places[-1]][1]
+    item.trivia.indent = before.trivia.indent
+    if not before.trivia.trail.endswith("\n"):
+        before.trivia.trail += "\n"
+    table.value._insert_at(places[-1] + 1, tomlkit.items.SingleKey(key), item)
+    dict.__setitem__(table, key, item)
 
 
 class Core(Entry):

@@ -1,0 +1,172 @@
+"""The parts of a report: what the page shows, asked of the program."""
+
+from __future__ import annotations
+
+import hashlib
+import re
+from collections.abc import Iterator
+from dataclasses import dataclass
+
+import chainlat
+
+from ..commands.verify import RequirementVerdict, TaskVerdict, Verdict, room_of
+from ..model import Model
+from .words import hops, ticks, walk
+
+#: How many ticks more than the walk a picture shows on either side: a part of its length.
+AROUND = 10
+
+
+@dataclass(frozen=True)
+class Bar:
+    """A value beside its limit, as a drawing: both in percent of its width."""
+
+    label: str
+    value: float
+    limit: float
+    verdict: str
+
+
+@dataclass(frozen=True)
+class Row:
+    """A verdict as the page shows it."""
+
+    what: str
+    name: str
+    value: str
+    limit: str
+    room: str
+    verdict: str
+    more: str
+    bar: Bar
+
+
+@dataclass(frozen=True)
+class CoreRows:
+    """A core: its load in percent, and its tasks."""
+
+    name: str
+    load: float
+    rows: tuple[Row, ...]
+
+
+@dataclass(frozen=True)
+class Story:
+    """A requirement: its verdict, its picture or why there is none, and its walk in words."""
+
+    row: Row
+    anchor: str
+    picture: str | None
+    alternative: str
+    no_picture: str
+    walk: tuple[str, ...]
+    lines: str
+
+
+@dataclass(frozen=True)
+class Source:
+    """What was analysed."""
+
+    file: str
+    digest: str
+    version: str
+    date: str | None
+    notes: tuple[str, ...]
+
+
+def row_of(verdict: Verdict) -> Row:
+    """The row of a verdict."""
+    of_chain = isinstance(verdict, RequirementVerdict)
+    what = f"{verdict.kind} of {verdict.chain}" if isinstance(verdict, RequirementVerdict) else "response"
+    room, more = room_of(verdict), []
+    if verdict.seen is not None:
+        more.append(f"a run shows {ticks(verdict.seen)}")
+    if isinstance(verdict, RequirementVerdict) and verdict.by is not None:
+        more.append(f"its task {verdict.by} is late")
+    value = "none" if verdict.value is None else ticks(verdict.value)
+    label = f"{'requirement' if of_chain else 'task'} {verdict.name}: {value} of {ticks(verdict.limit)}"
+    return Row(
+        what, verdict.name, value, ticks(verdict.limit), "none" if room is None else ticks(room),
+        verdict.verdict, ", ".join(more), bar_of(verdict, label),
+    )
+
+
+def bar_of(verdict: Verdict, label: str) -> Bar:
+    """The bar of a verdict. Its width is the greater of value and limit; without a value it is the limit alone."""
+    shown = verdict.value if verdict.value is not None else verdict.seen or 0
+    whole = max(shown, verdict.limit, 1)
+    return Bar(label, round(100 * shown / whole, 2), round(100 * verdict.limit / whole, 2), verdict.verdict)
+
+
+def cores_of(model: Model, found: chainlat.Verification, program: chainlat.Program) -> Iterator[CoreRows]:
+    """The tasks by core, with the loads that `explain` says."""
+    verdicts: dict[str, TaskVerdict] = {it.name: it for it in found.tasks}
+    for load in chainlat.explain(model, program=program).cores:
+        rows = tuple(row_of(verdicts[task.name]) for task in model.tasks if task.core == load.core)
+        yield CoreRows(load.core, round(100 * load.load / load.of, 1), rows)
+
+
+def story_of(model: Model, verdict: RequirementVerdict, program: chainlat.Program) -> Story:
+    """The story of a requirement."""
+    reason = chainlat.why(model, "requirement", verdict.name, program=program)
+    picture, why_not = None, ""
+    try:
+        picture = _picture(model, verdict, reason, program)
+    except (chainlat.RunRefused, chainlat.SimulationRefused) as refused:
+        why_not = f"The run that comes near to it is too long to be drawn: {refused.line}."
+    about = reason.length
+    span = f" from {ticks(about.start)} to {ticks(about.end)}" if about is not None else ""
+    return Story(
+        row_of(verdict), f"requirement-{verdict.name}", picture,
+        f"A row for each task and chain in the run that comes near to {verdict.name}; the longest path{span} as a line.",
+        why_not, (*walk(reason), *hops(reason)), str(reason),
+    )
+
+
+def _picture(
+    model: Model, verdict: RequirementVerdict, reason: chainlat.Reason, program: chainlat.Program
+) -> str:
+    """The picture of the run near to a requirement, around the walk or the window."""
+    run = chainlat.witness(model, "requirement", verdict.name, program=program)
+    about = reason.length or reason.window
+    start, end = (0, run.ticks) if about is None else (about.start, about.end)
+    around = max((end - start) // AROUND, 1)
+    start, end = max(start - around, 0), min(end + around, run.ticks)
+    if start >= end:
+        start, end = 0, run.ticks
+    svg = chainlat.draw(model, run, start, end, program=program).svg
+    return scoped(svg, f"p-{verdict.name}")
+
+
+def scoped(svg: str, name: str) -> str:
+    """A picture for a page with others: its rules hold within it alone, and its names are its own."""
+    marked = re.sub(r"^<svg ", f'<svg id="{name}" ', svg, count=1)
+    selector = f"#{re.sub(r'([^A-Za-z0-9_-])', lambda found: chr(92) + found[1], name)}"
+
+    def style(match: re.Match[str]) -> str:
+        return f"<style>\n{scope(match[1], selector)}</style>"
+
+    return re.sub(r"<style>\n(.*?)</style>", style, marked, count=1, flags=re.S)
+
+
+def scope(rules: str, selector: str) -> str:
+    """The rules of a style, each with a selector before it."""
+
+    def one(match: re.Match[str]) -> str:
+        names = match[1]
+        if names.startswith("@"):
+            return match[0]
+        each = [
+            name.replace("svg", selector, 1) if name.startswith("svg") else f"{selector} {name}"
+            for name in re.split(r",(?![^()]*\))", names)
+        ]
+        return f"{','.join(each)}{{"
+
+    return re.sub(r"([^{}\n]+)\{", one, rules)
+
+
+def source_of(model: Model, found: bytes, date: str | None, program: chainlat.Program) -> Source:
+    """What was analysed: the file, its digest, the version of the program, the date that was handed in, and notes."""
+    notes = tuple(str(line) for line in chainlat.check(model, program=program).notes)
+    version = program.run("version").text.strip()
+    return Source(model.name or "a model without a file", hashlib.sha256(found).hexdigest(), version, date, notes)
