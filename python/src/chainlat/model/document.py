@@ -164,8 +164,7 @@ class Model:
 
     def _add(self, kind: type[SomeEntry], values: Mapping[str, Any], below: Sequence[Mapping[str, Any]] = ()) -> SomeEntry:
         """Adds an entry behind the others of its section, in the way in which these are written."""
-        section = self.document.get(kind.SECTION)
-        as_headers = section is None or isinstance(section, AoT)
+        as_headers = isinstance(self.document.get(kind.SECTION, tomlkit.aot()), AoT)
         table: Any = tomlkit.table() if as_headers else tomlkit.inline_table()
         entry = kind(table)
         for key, value in values.items():
@@ -173,14 +172,14 @@ class Model:
                 setattr(entry, key, value)
         if below:
             table["runnable"] = _runnables(below, as_headers)
+        if as_headers:
+            self._end_line()
+        section = self.document.get(kind.SECTION)
         if section is None:
             section = tomlkit.aot()
             section.append(table)
-            self._end_line()
             self.document.append(kind.SECTION, section)
         else:
-            if as_headers:
-                self._end_line()
             section.append(table)
         return self._all(kind)[-1]
 
