@@ -30,12 +30,12 @@ def frame_of(rows: Iterable[dict[str, Any]]) -> pandas.DataFrame:
     """A frame with a row for each of these, and whole numbers as `Int64`, in which `<NA>` is what isn't there."""
     import pandas
 
-    frame = pandas.DataFrame(list(rows))
+    frame = pandas.DataFrame(list(rows), dtype=object)
     for column in frame.columns:
         known = frame[column].dropna()
         if len(known) and all(isinstance(value, int) and not isinstance(value, bool) for value in known):
             frame[column] = frame[column].astype("Int64")
-    return frame
+    return frame.infer_objects()
 
 
 @dataclass(frozen=True)

@@ -11,6 +11,7 @@ import shutil
 import subprocess
 import tempfile
 from collections.abc import Sequence
+from contextlib import ExitStack
 from dataclasses import dataclass
 from functools import cached_property
 from pathlib import Path
@@ -50,7 +51,9 @@ class Program:
 
     def run(self, *words: str | File) -> Ran:
         """Runs a command. One content of a file goes in by the standard input, any other by a file for its time."""
-        with tempfile.TemporaryDirectory(prefix="chainlat-") as folder:
+        several = sum(isinstance(word, File) and word.content is not None for word in words) > 1
+        with ExitStack() as stack:
+            folder = stack.enter_context(tempfile.TemporaryDirectory(prefix="chainlat-")) if several else ""
             arguments, given = _arguments(words, folder)
             try:
                 done = subprocess.run(

@@ -208,7 +208,7 @@ def _on_a_cluster(
     }
     found: dict[int, Row] = {}
     with _bar(len(edits), progress) as step:
-        for future in as_done(going):
+        for future in as_done(going):  # type: ignore[no-untyped-call]
             begins = going[future]
             try:
                 rows = future.result()

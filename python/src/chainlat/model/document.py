@@ -83,7 +83,8 @@ class Model:
     @property
     def version(self) -> int:
         """The version of the format, 1 to 3."""
-        return int(self.document["version"])  # type: ignore[arg-type]
+        version: int = self.document.unwrap()["version"]
+        return version
 
     @version.setter
     def version(self, version: int) -> None:

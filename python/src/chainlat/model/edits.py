@@ -117,6 +117,18 @@ def _requirement(model: Model, name: str, chain: str, kind: str, most: str) -> N
     model.add_requirement(name, chain, kind, int(most))
 
 
+def _drop_task(model: Model, name: str) -> None:
+    model.drop_task(name)
+
+
+def _drop_chain(model: Model, name: str) -> None:
+    model.drop_chain(name)
+
+
+def _drop_requirement(model: Model, name: str) -> None:
+    model.drop_requirement(name)
+
+
 Edit = Callable[..., None]
 
 EDITS: dict[str, Edit] = {
@@ -133,11 +145,11 @@ EDITS: dict[str, Edit] = {
     "move": _move,
     "access": _access,
     "task": _task,
-    "drop-task": lambda model, name: model.drop_task(name),
+    "drop-task": _drop_task,
     "chain": _chain,
-    "drop-chain": lambda model, name: model.drop_chain(name),
+    "drop-chain": _drop_chain,
     "requirement": _requirement,
-    "drop-requirement": lambda model, name: model.drop_requirement(name),
+    "drop-requirement": _drop_requirement,
 }
 
 

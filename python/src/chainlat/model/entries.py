@@ -119,7 +119,8 @@ class Task(Entry):
 
     def runnable(self, name: str) -> Runnable:
         """The runnable of a name. Raises `ModelError` where the task has none."""
-        return one_of(self.runnables, name, "runnable")
+        found: Runnable = one_of(self.runnables, name, "runnable")
+        return found
 
 
 class Chain(Entry):

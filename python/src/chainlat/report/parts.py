@@ -140,13 +140,18 @@ def _picture(
 
 def scoped(svg: str, name: str) -> str:
     """A picture for a page with others: its rules hold within it alone, and its names are its own."""
-    marked = re.sub(r"^<svg ", f'<svg id="{name}" ', svg, count=1)
-    selector = f"#{re.sub(r'([^A-Za-z0-9_-])', lambda found: chr(92) + found[1], name)}"
+    own = svg.replace(' id="', f' id="{name}-')
+    marked = re.sub(r"^<svg ", f'<svg id="{name}" ', own, count=1)
+    selector = f"#{re.sub(r'([^A-Za-z0-9_-])', _escaped, name)}"
 
     def style(match: re.Match[str]) -> str:
         return f"<style>\n{scope(match[1], selector)}</style>"
 
     return re.sub(r"<style>\n(.*?)</style>", style, marked, count=1, flags=re.S)
+
+
+def _escaped(match: re.Match[str]) -> str:
+    return f"\\{match[1]}"
 
 
 def scope(rules: str, selector: str) -> str:

@@ -10,12 +10,12 @@ import click
 from ..errors import ModelError
 from ..events import COLUMNS, Event, trace_of
 from ..model import Model
-from .output import output_option, source, write
+from .output import Decorated, output_option, source, write
 
 
-def _columns(function: object) -> object:
+def _columns(function: Decorated) -> Decorated:
     for name, says in reversed(COLUMNS.items()):
-        function = click.option(f"--{name}", default=name, show_default=True, metavar="COLUMN", help=says)(function)  # type: ignore[type-var]
+        function = click.option(f"--{name}", default=name, show_default=True, metavar="COLUMN", help=says)(function)
     return function
 
 

@@ -37,14 +37,13 @@ for command in (
 def main() -> None:
     """Runs a command. What goes wrong is told in one line or a few, never by a traceback."""
     try:
-        tools.main(standalone_mode=False)
+        status = tools.main(standalone_mode=False)
+        sys.exit(status if isinstance(status, int) else 0)
     except click.exceptions.Abort:
         sys.exit(130)
     except click.ClickException as error:
         error.show()
         sys.exit(error.exit_code)
-    except click.exceptions.Exit as ended:
-        sys.exit(ended.exit_code)
     except Refused as refused:
         click.echo(str(refused), err=True)
         sys.exit(refused.status)

@@ -41,7 +41,7 @@ def sweep_command(
     if scheduler is not None:
         from distributed import Client
 
-        client = Client(scheduler)
+        client = Client(scheduler)  # type: ignore[no-untyped-call]
     try:
         frame = sweep(source(model), variants, client=client, workers=workers, besides=besides, progress=not quiet)
     finally:
