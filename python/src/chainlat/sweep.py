@@ -92,7 +92,7 @@ def _verified(found: Verification) -> Row:
         "broken": found.sum.broken,
         "unshown": found.sum.unshown,
         "least room percent": min(rooms, default=None),
-        "rooms": sum(rooms),
+        "all rooms percent": sum(rooms),
     }
     for it in found.verdicts:
         if isinstance(it, RequirementVerdict):
@@ -131,7 +131,7 @@ def sweep(
     - `progress`: whether a bar shows how far it is
 
     Columns: `variant` (its number, from 0), `edits`, a column for each change of a product, `unmet`, `met`, `broken`,
-    `unshown`, `least room percent`, `rooms`, the bound of each requirement in ticks by its name, and `refused`.
+    `unshown`, `least room percent`, `all rooms percent`, the bound of each requirement in ticks by its name, and `refused`.
     """
     for it in besides:
         if it not in BESIDES:
@@ -156,7 +156,7 @@ def _sorted(rows: list[Row]) -> pandas.DataFrame:
             "refused" in row,
             row.get("unmet", 0),
             float("inf") if least is None else -least,
-            -row.get("rooms", 0),
+            -row.get("all rooms percent", 0),
             row["variant"],
         )
 

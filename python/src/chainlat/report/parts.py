@@ -114,18 +114,26 @@ def story_of(model: Model, verdict: RequirementVerdict, program: chainlat.Progra
         picture = _picture(model, verdict, reason, program)
     except (chainlat.RunRefused, chainlat.SimulationRefused) as refused:
         why_not = f"The run that comes near to it is too long to be drawn: {refused.line}."
-    about = reason.length
-    span = f" from {ticks(about.start)} to {ticks(about.end)}" if about is not None else ""
     return Story(
-        row_of(verdict), f"requirement-{verdict.name}", picture,
-        f"A row for each task and chain in the run that comes near to {verdict.name}; the longest path{span} as a line.",
-        why_not, (*walk(reason), *hops(reason)), str(reason),
+        row_of(verdict), f"requirement-{verdict.name}", scoped(picture.svg, f"p-{verdict.name}") if picture else None,
+        _alternative(verdict, picture), why_not, (*walk(reason), *hops(reason)), str(reason),
+    )
+
+
+def _alternative(verdict: RequirementVerdict, picture: chainlat.Picture | None) -> str:
+    """What a picture shows, in words."""
+    if picture is None:
+        return ""
+    run = f"made for its late task {verdict.by}" if verdict.by else f"that comes near to {verdict.name}"
+    return (
+        f"Ticks {ticks(picture.start)} to {ticks(picture.end)} of the run {run}: a row for each task, and the longest "
+        "reaction of each chain as a line, where it lies between these ticks."
     )
 
 
 def _picture(
     model: Model, verdict: RequirementVerdict, reason: chainlat.Reason, program: chainlat.Program
-) -> str:
+) -> chainlat.Picture:
     """The picture of the run near to a requirement, around the walk or the window."""
     run = chainlat.witness(model, "requirement", verdict.name, program=program)
     about = reason.length or reason.window
@@ -134,8 +142,7 @@ def _picture(
     start, end = max(start - around, 0), min(end + around, run.ticks)
     if start >= end:
         start, end = 0, run.ticks
-    svg = chainlat.draw(model, run, start, end, program=program).svg
-    return scoped(svg, f"p-{verdict.name}")
+    return chainlat.draw(model, run, start, end, program=program)
 
 
 def scoped(svg: str, name: str) -> str:
