@@ -13,7 +13,6 @@ import tempfile
 from collections.abc import Sequence
 from contextlib import ExitStack
 from dataclasses import dataclass
-from functools import cached_property
 from pathlib import Path
 
 from .errors import ERRORS, ProgramFailed, ProgramMissing, Refused
@@ -38,7 +37,7 @@ class Program:
     path: str | None = None
     seconds: float | None = None
 
-    @cached_property
+    @property
     def executable(self) -> str:
         """The file of the executable. Raises `ProgramMissing` where there is none."""
         named = self.path or os.environ.get(VARIABLE) or "chainlat"

@@ -7,9 +7,8 @@ from pathlib import PurePath
 
 import chainlat
 
-from ..model import Model
 from ..program import Program, the
-from ..sources import Source, content_of
+from ..sources import Source, content_of, file_of
 from .parts import cores_of, row_of, source_of, story_of
 
 
@@ -17,19 +16,18 @@ def report(model: Source, *, title: str | None = None, date: str | None = None, 
     """The report of a model: an HTML page without scripts that loads nothing.
 
     It is a function of the model, the title, the date and the program: nothing else of the moment or the machine is in
-    it. Raises `Refused` where the model is, and `ModelError` where it is TOML 1.1 that this package doesn't read.
+    it. Raises `Refused` where the model is.
     """
     from jinja2 import Environment, StrictUndefined
 
-    asked, content = the(program), content_of(model)
-    chainlat.check(content, program=asked)
+    asked, name = the(program), file_of(model).name
     found = chainlat.verify(model, program=asked)
-    document = Model.load(model)
+    document = chainlat.migrate(model, program=asked)
     margin = chainlat.margin(document, program=asked)
     folder = files("chainlat.report")
     environment = Environment(autoescape=True, undefined=StrictUndefined, trim_blocks=True, lstrip_blocks=True)
     return environment.from_string((folder / "page.html").read_text("utf-8")).render(
-        title=title or PurePath(document.name or "model").stem,
+        title=title or PurePath(name or "model").stem,
         style=(folder / "page.css").read_text("utf-8"),
         sum=found.sum,
         is_met=found.is_met,
@@ -37,5 +35,5 @@ def report(model: Source, *, title: str | None = None, date: str | None = None, 
         cores=list(cores_of(document, found, asked)),
         stories=[story_of(document, it, asked) for it in found.requirements],
         margin=margin,
-        source=source_of(document, content, date, asked),
+        source=source_of(name, content_of(model), date, asked),
     ) + "\n"

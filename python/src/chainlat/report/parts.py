@@ -177,8 +177,8 @@ def scope(rules: str, selector: str) -> str:
     return re.sub(r"([^{}\n]+)\{", one, rules)
 
 
-def source_of(model: Model, found: bytes, date: str | None, program: chainlat.Program) -> Source:
+def source_of(name: str | None, content: bytes, date: str | None, program: chainlat.Program) -> Source:
     """What was analysed: the file, its digest, the version of the program, the date that was handed in, and notes."""
-    notes = tuple(str(line) for line in chainlat.check(model, program=program).notes)
+    notes = tuple(str(line) for line in chainlat.check(content, program=program).notes)
     version = program.run("version").text.strip()
-    return Source(model.name or "a model without a file", hashlib.sha256(found).hexdigest(), version, date, notes)
+    return Source(name or "a model without a file", hashlib.sha256(content).hexdigest(), version, date, notes)

@@ -7,9 +7,11 @@ from collections.abc import Iterable
 
 import click
 
+import chainlat
+
 from ..errors import ModelError
 from ..events import COLUMNS, Event, trace_of
-from ..model import Model
+from ..sources import content_of
 from .output import Decorated, output_option, source, write
 
 
@@ -36,9 +38,9 @@ def from_csv_command(
     RELEASE, and which RUNNABLE it executed. Lines are in the order of time; those of a job have its arrival. What
     doesn't fit is an error with the line.
     """
-    document = Model.load(source(model))
+    document = chainlat.migrate(source(model))
     given = source(table)
-    text = given.decode() if isinstance(given, bytes) else open(given, encoding="utf-8", newline="").read()
+    text = content_of(given).decode()
     events = _events(text, columns, "\t" if separator == "\\t" else separator, table)
     write(bytes(trace_of(document, events, ticks, gap, table)), output)
 

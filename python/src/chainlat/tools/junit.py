@@ -9,6 +9,7 @@ import click
 import chainlat
 
 from ..commands.verify import RequirementVerdict, Verdict
+from ..sources import Source
 from .output import output_option, source, write
 
 
@@ -62,7 +63,7 @@ def suite_of(path: str, skips: bool) -> Any:
     return suite
 
 
-def case_of(model: str | bytes, path: str, verdict: Verdict, skips: bool) -> Any:
+def case_of(model: Source, path: str, verdict: Verdict, skips: bool) -> Any:
     """The case of a verdict."""
     from junitparser import Failure, Skipped, TestCase
 

@@ -34,6 +34,18 @@ def write(content: str | bytes, output: str | None) -> None:
         write_over(output, data)
 
 
-def source(path: str) -> str | bytes:
-    """The file of an argument; the standard input is read."""
-    return sys.stdin.buffer.read() if path in ("-", STDIN) else path
+class Given:
+    """What the standard input has."""
+
+    name = "-"
+
+    def __init__(self) -> None:
+        self.content = sys.stdin.buffer.read()
+
+    def __bytes__(self) -> bytes:
+        return self.content
+
+
+def source(path: str) -> str | Given:
+    """The file of an argument; `-` is the standard input, which is read."""
+    return Given() if path in ("-", STDIN) else path
