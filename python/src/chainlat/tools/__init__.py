@@ -1,0 +1,1 @@
+"""The command line `chainlat-tools`, a module a command."""
