@@ -178,7 +178,6 @@ fn task_tables(
 }
 
 /// The tables that are kept beside a model.
-#[derive(Drop)]
 pub struct LookUps {
     pub names: SectionNames,
     pub tasks: TaskTables,
@@ -186,6 +185,18 @@ pub struct LookUps {
     pub steps: StepTable,
     /// The groups of each chain, in order.
     pub groups: Vec<List<Group>>,
+}
+
+// Written out, so that a function that lets the tables go calls this once.
+impl Drop for LookUps {
+    fn drop(self) {
+        let LookUps {
+            names: _names,
+            tasks: _tasks,
+            steps: _steps,
+            groups: _groups,
+        } = self;
+    }
 }
 
 /// Makes the tables of a valid model, in time linear in the size of the model. Fails with

@@ -24,7 +24,7 @@ pub struct LabelDef {
 
 /// A model. It need not be valid: its names may refer to nothing, and its numbers may be out of
 /// range or contradict each other.
-#[derive(Debug, PartialEq, Eq, Drop)]
+#[derive(Debug, PartialEq, Eq)]
 pub struct SystemModel {
     pub cores: List<CoreDef>,
     pub stimuli: List<StimulusDef>,
@@ -32,6 +32,20 @@ pub struct SystemModel {
     pub tasks: List<TaskDef>,
     pub chains: List<ChainDef>,
     pub requirements: List<RequirementDef>,
+}
+
+// Written out, so that a function that lets a model go calls this once.
+impl Drop for SystemModel {
+    fn drop(self) {
+        let SystemModel {
+            cores: _cores,
+            stimuli: _stimuli,
+            labels: _labels,
+            tasks: _tasks,
+            chains: _chains,
+            requirements: _requirements,
+        } = self;
+    }
 }
 
 impl SystemModel {

@@ -14,9 +14,16 @@ const FEW_NAMES: usize = 4;
 
 /// A set of names, numbered from 0 in the order in which they were added. A name is found in
 /// constant time.
-#[derive(Drop)]
 pub struct NameSet {
     names: IndexSet<Name>,
+}
+
+// Written out: a function that lets a set go calls this once, where a derived drop would stand in
+// it as a call for each vector inside.
+impl Drop for NameSet {
+    fn drop(self) {
+        let NameSet { names: _names } = self;
+    }
 }
 
 impl Model for NameSet {
