@@ -4,7 +4,6 @@ import importlib.machinery
 import importlib.util
 import json
 from collections.abc import Iterator
-from pathlib import Path
 from typing import Any
 
 import jsonschema
@@ -135,12 +134,14 @@ def test_the_json_of_an_answer_is_as_its_schema_says(found: Found) -> None:
     jsonschema.validate(json.loads(answer.to_json()), schema_of(answer.COMMAND))
 
 
+@pytest.mark.parametrize("found", [it for it in WHOLE if ANSWERS[it[1]] is chainlat.Model], ids=told)
+def test_the_json_of_a_model_is_as_the_schema_of_models_says(found: Found) -> None:
+    schema = json.loads((TOP / "schema" / "chainlat.schema.json").read_text())
+    jsonschema.validate(json.loads(chainlat.Model.read(found[3]).to_json()), schema)
+
+
 @pytest.mark.parametrize("command", sorted(set(ANSWERS) - {"generate"}))
 def test_an_answer_becomes_a_frame(command: str) -> None:
     text = max((it[3] for it in WHOLE if it[1] == command and len(it[3]) < 20000), key=len)
     frame = ANSWERS[command].read(text).to_frame()
     assert len(frame) > 0
-
-
-def test_the_folders_are_those_of_the_repository() -> None:
-    assert Path(ROWS).is_dir()

@@ -173,6 +173,30 @@ def test_columns_have_the_names_that_options_say(program: str, tmp_path: Path) -
     assert done.stdout == (TOP / "crates" / "rows" / "data" / "fixed.trace").read_bytes()
 
 
+def test_two_jobs_are_joined_where_nothing_lies_between_them_and_no_gap_is_theirs(
+    program: str, tmp_path: Path
+) -> None:
+    table = tmp_path / "events.csv"
+    header = TABLE.splitlines()[0]
+    for start, runs in ((10, "run A 7 13\n"), (11, "run A 7 10\nrun A 11 14\n")):
+        table.write_text(f"{header}\nA,0,0,a,7,10,c0\nA,10,10,a,{start},{start + 3},c0\n")
+        lines = tools("from-csv", FIXED, str(table)).stdout.decode()
+        assert lines.endswith(f"job A 0 0 3\njob A 10 10 3\n{runs}end\n")
+
+
+def test_what_the_last_job_has_not_run_is_written_as_a_tick(program: str, tmp_path: Path) -> None:
+    table, two = tmp_path / "events.csv", tmp_path / "two.toml"
+    model = chainlat.Model.load(FIXED)
+    model.apply("chainlat edits 2\ntask C c0 s10 9 implicit * c 1 2 * * d 1 2 * *\n")
+    model.save(two)
+    header = TABLE.splitlines()[0]
+    table.write_text(f"{header}\nC,0,0,c,0,2,c0\nC,0,0,d,2,4,c0\nC,10,10,c,10,11,c0\n")
+    assert "job C 0 0 2 2\njob C 10 10 1 1\n" in tools("from-csv", str(two), str(table)).stdout.decode()
+    table.write_text(f"{header}\nC,0,0,c,0,2,c0\nC,10,10,c,10,11,c0\n")
+    done = tools("from-csv", str(two), str(table))
+    assert "the job of C that arrives at 0 has no event of d" in done.stderr.decode()
+
+
 @pytest.mark.parametrize(
     ("old", "new", "said"),
     [

@@ -60,8 +60,8 @@ class Event:
 def trace_of(model: Model, events: Iterable[Event], ticks: int | None, gap: int, path: str) -> Trace:
     """The trace of events, for the tasks, runnables and cores of a model.
 
-    Stretches of one task on its core that are at most `gap` ticks apart are joined, and the ticks between them count to
-    the job and the runnable before. Raises `ModelError` with the line of an event that doesn't fit.
+    Stretches of one job that are at most `gap` ticks apart, with no other task between them, are joined, and the ticks
+    between them count to the runnable before. Those of two jobs are joined where nothing lies between them. Raises `ModelError` with the line of an event that doesn't fit.
     """
     tasks = {task.name: task for task in model.tasks}
     runnables = {task.name: [it.name for it in task.runnables] for task in model.tasks}
@@ -89,7 +89,8 @@ def trace_of(model: Model, events: Iterable[Event], ticks: int | None, gap: int,
             )
         times[at] += event.end - event.start
         before = last.get(event.core)
-        if before is not None and before[0].task == event.task and 0 <= event.start - here[-1].end <= gap:
+        allowed = gap if before is not None and before[0].arrival == event.arrival else 0
+        if before is not None and before[0].task == event.task and event.start - here[-1].end <= allowed:
             _, counted, place = before
             counted[place] += event.start - here[-1].end
             here[-1] = Stretch(event.task, here[-1].start, event.end)

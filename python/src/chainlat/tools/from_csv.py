@@ -26,7 +26,7 @@ def _columns(function: Decorated) -> Decorated:
 @_columns
 @click.option("--ticks", type=click.IntRange(0), help="How many ticks the recording lasts.  [default: to the last event]")
 @click.option("--separator", default=",", show_default=True, help="What separates the columns; \\t is a tabulator.")
-@click.option("--gap", type=click.IntRange(0), default=1, show_default=True, help="Join stretches of a task that are at most so many ticks apart.")
+@click.option("--gap", type=click.IntRange(0), default=1, show_default=True, help="Join stretches of a job that are at most so many ticks apart.")
 @click.argument("model", metavar="MODEL")
 @click.argument("table", metavar="TABLE")
 def from_csv_command(
