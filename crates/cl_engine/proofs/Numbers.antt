@@ -6,7 +6,7 @@ use Rattle.std.proofs.lemmas.Bool.Decides.{nat_tests}
 use Rattle.std.proofs.lemmas.Slice.Eq.{bytes_eq-Decides}
 use Rattle.cl_text.specs.Decimal.{number_of}
 use Rattle.cl_text.proofs.DecimalLemmas.{grammar_of_decimal}
-use Rattle.cl_engine.specs.{declared.words.Bounds.Bounds, Files.word, Words.{number_within, two_numbers}}
+use Rattle.cl_engine.specs.{declared.words.Bounds.Bounds, Words.{number_within, two_numbers}}
 
 module _ (bounds : Bounds) (word : List ℕ) where
   -- the word's own digits are those of its number, within the bounds

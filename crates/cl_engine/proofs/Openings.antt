@@ -56,7 +56,7 @@ module _ (found : Outcome) where
     reads_more (Ok model) is = validates_more model (refusal_of model) is
     reads_more (Err refusal) is = refused refusal is
 
-  model_more : (gave : File → Fetched) (stops goes : List ℕ → Refusal → Outcome → Type 0) → ((bytes : List ℕ) (refusal : Refusal) → stops bytes refusal found → goes bytes refusal found)
+  pub model_more : (gave : File → Fetched) (stops goes : List ℕ → Refusal → Outcome → Type 0) → ((bytes : List ℕ) (refusal : Refusal) → stops bytes refusal found → goes bytes refusal found)
       → (one other : SystemModel → Outcome → Type 0) → ((model : SystemModel) → one model found → other model found)
       → OpensTo 1 (gave model_file) (λ bytes. ReadsEither (model_of bytes) (stops bytes) one) found
       → OpensTo 1 (gave model_file) (λ bytes. ReadsEither (model_of bytes) (goes bytes) other) found

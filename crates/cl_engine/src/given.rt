@@ -25,10 +25,7 @@ impl Given {
         requires { Fits files.Content (content_of self) }
         ensures { content_of self ≡ Bytes result.items }
     {
-        match self {
-            Given::Content(bytes) => bytes,
-            _ => unreachable!(),
-        }
+        self.either().err().unwrap()
     }
 
     /// Returns the model of the one file of a command that names `Files::Model`.
@@ -50,10 +47,7 @@ impl Given {
         requires { (limit : ℕ) × Fits (files.ModelAnd limit) (content_of self) }
         ensures { content_of self ≡ ModelAnd result.0 result.1.items }
     {
-        match self {
-            Given::ModelAnd(model, text) => (model, text),
-            _ => unreachable!(),
-        }
+        self.either().ok().unwrap()
     }
 
     /// Returns the model of the first file and the bytes of the second, for a command that names

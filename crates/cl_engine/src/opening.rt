@@ -3,7 +3,7 @@
 ghost use Rattle.std.specs.Prelude.{◌≡◌, ◌<◌, ◌≤◌, length, IfOk};
 ghost use Rattle.cl_model.specs.{Ranges.IsInRange, Reading.model_of, Validity.refusal_of};
 ghost use Rattle.cl_engine.specs.declared.files.Files.TheVariants as files;
-ghost use Rattle.cl_engine.specs.{Calls.{shelf_call, FetchesAlone}, Fetched.{Bytes, MayGive}, Files.{word, files_named, file_count}, Inner.Opened.{given, IsOpenedAs, IsValidatedAs, HasOpened, HasOpenedSecond, HaveOpened, LeavesOthers}};
+ghost use Rattle.cl_engine.specs.{Calls.{shelf_call, FetchesAlone}, Fetched.Bytes, Files.{word, files_named, file_count}, Inner.Opened.{HasFetched, IsOpenedAs, IsValidatedAs, HasOpened, HasOpenedSecond, HaveOpened, LeavesOthers}};
 
 use crate::words::word_at;
 use crate::{FILE_LIMIT, Files, Given, Outcome};
@@ -14,15 +14,13 @@ use cl_time::NoMemory;
 use cl_valid::{ValidFault, validate};
 use std::alloc::Global;
 
-/// What the fetch of a file gave, where memory didn't run out.
+/// What the fetch of a file gave.
 #[derive(Drop)]
 pub(crate) enum FileFetch {
     /// All bytes of the file, at most as many as its limit.
     Bytes(Vec<u8>),
-    /// The file couldn't be read.
-    Fault,
-    /// More bytes than its limit were taken.
-    TooLong,
+    /// The file couldn't be read or is too long, and this is the outcome of the command.
+    Stopped(Outcome),
 }
 
 /// What the opening of a model file gave.
@@ -77,8 +75,7 @@ fn open_content<S: Shelf>(alloc: Global, words: &Words, shelf: &mut S) -> Result
 {
     match fetch_file(alloc, words, 1, FILE_LIMIT, shelf)? {
         FileFetch::Bytes(bytes) => Ok(Opened::Held(Given::Content(bytes))),
-        FileFetch::Fault => Ok(Opened::Stopped(Outcome::read_fault(alloc, 1)?)),
-        FileFetch::TooLong => Ok(Opened::Stopped(Outcome::long_file(alloc, 1)?)),
+        FileFetch::Stopped(outcome) => Ok(Opened::Stopped(outcome)),
     }
 }
 
@@ -111,12 +108,9 @@ fn open_two<S: Shelf>(
     ensures opened { IfOk result
         (HaveOpened (files.ModelAnd limit) words.now (shelf_call S.held S.faults S.longest shelf.old shelf.new)) }
 {
-    match open_model(alloc, words, shelf)? {
-        OpenedModel::Valid(model) => open_second(alloc, words, limit, model, shelf),
-        OpenedModel::Refused(_, refusal) => {
-            Ok(Opened::Stopped(Outcome::model_refused(alloc, refusal)?))
-        }
-        OpenedModel::Stopped(outcome) => Ok(Opened::Stopped(outcome)),
+    match open_alone(alloc, words, shelf)? {
+        Opened::Held(given) => open_second(alloc, words, limit, given.model(), shelf),
+        Opened::Stopped(outcome) => Ok(Opened::Stopped(outcome)),
     }
 }
 
@@ -153,10 +147,17 @@ fn open_second<S: Shelf>(
     ensures opened { IfOk result
         (HasOpenedSecond (shelf_call S.held S.faults S.longest shelf.old shelf.new) (word words.now 2) limit model) }
 {
-    match fetch_file(alloc, words, 2, limit, shelf)? {
-        FileFetch::Bytes(text) => Ok(Opened::Held(Given::ModelAnd(model, text))),
-        FileFetch::Fault => Ok(Opened::Stopped(Outcome::read_fault(alloc, 2)?)),
-        FileFetch::TooLong => Ok(Opened::Stopped(Outcome::long_file(alloc, 2)?)),
+    match fetch_file(alloc, words, 2, limit, shelf) {
+        Ok(FileFetch::Bytes(text)) => Ok(Opened::Held(Given::ModelAnd(model, text))),
+        // The model is dropped by a call, since a proof that drops it at an exit is dear.
+        Ok(FileFetch::Stopped(outcome)) => {
+            drop(model);
+            Ok(Opened::Stopped(outcome))
+        }
+        Err(no_memory) => {
+            drop(model);
+            Err(no_memory)
+        }
     }
 }
 
@@ -170,13 +171,18 @@ fn fetch_file<S: Shelf>(
 ) -> Result<FileFetch, NoMemory>
     requires { place < length words.now }
     ensures leaves { FetchesAlone (shelf_call S.held S.faults S.longest shelf.old shelf.new) (word words.now place) }
-    ensures gave { IfOk result (λ fetch.
-        MayGive (shelf_call S.held S.faults S.longest shelf.old shelf.new) (word words.now place) limit (given fetch)) }
+    ensures fetched { IfOk result
+        (HasFetched (shelf_call S.held S.faults S.longest shelf.old shelf.new) (word words.now place) place limit) }
 {
     match shelf.fetch(alloc, word_at(words, place), limit) {
         Ok(bytes) => Ok(FileFetch::Bytes(bytes)),
-        Err(FetchFault::Failed) => Ok(FileFetch::Fault),
-        Err(FetchFault::Long { .. }) => Ok(FileFetch::TooLong),
+        Err(FetchFault::Failed) => Ok(FileFetch::Stopped(Outcome::read_fault(
+            alloc,
+            place as u64,
+        )?)),
+        Err(FetchFault::Long { .. }) => {
+            Ok(FileFetch::Stopped(Outcome::long_file(alloc, place as u64)?))
+        }
         Err(FetchFault::NoMemory) => Err(NoMemory),
     }
 }
@@ -193,18 +199,9 @@ fn open_model<S: Shelf>(
     ensures opened { IfOk result
         (HasOpened (shelf_call S.held S.faults S.longest shelf.old shelf.new) (word words.now 1)) }
 {
-    let fetch = fetch_file(alloc, words, 1, FILE_LIMIT, shelf)?;
-    open_fetched(alloc, fetch)
-}
-
-/// Makes a valid model of what the fetch of a model file gave, or says why there is none.
-fn open_fetched(alloc: Global, fetch: FileFetch) -> Result<OpenedModel, NoMemory>
-    ensures { IfOk result (IsOpenedAs (given fetch)) }
-{
-    match fetch {
+    match fetch_file(alloc, words, 1, FILE_LIMIT, shelf)? {
         FileFetch::Bytes(bytes) => open_bytes(alloc, bytes),
-        FileFetch::Fault => Ok(OpenedModel::Stopped(Outcome::read_fault(alloc, 1)?)),
-        FileFetch::TooLong => Ok(OpenedModel::Stopped(Outcome::long_file(alloc, 1)?)),
+        FileFetch::Stopped(outcome) => Ok(OpenedModel::Stopped(outcome)),
     }
 }
 

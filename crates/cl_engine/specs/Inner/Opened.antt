@@ -3,23 +3,30 @@ use Rattle.std.specs.Prelude.{◌≡◌, ◌≢◌, ℕ, List, Option, Some, Non
 use Rattle.cl_io.specs.Names.{SameAtEach}
 use Rattle.cl_model.specs.{declared.{model.SystemModel.SystemModel, refusal.Refusal.Refusal}, Reading.model_of, Validity.refusal_of}
 use Rattle.cl_engine.specs.{declared.{files.{Files.Files, TheConstants.FILE_LIMIT}, outcome.Outcome.Outcome, opening.{FileFetch.FileFetch, OpenedModel.OpenedModel, Opened.Opened}}, Calls.{ShelfCall, StaysAt}, Content.{Content, Nothing, Bytes as Whole, Model, ModelAnd, content_of}}
-use Rattle.cl_engine.specs.{Content.{MeansModel, MeansNone}, Fetched.{Fetched, Bytes, Fault, TooLong, MayGive, EachFile, FileGave, WaitsForModel}, Files.{File, model_file, second_file, files_named, word}, Outcome.{OpensTo, Opens}}
+use Rattle.cl_engine.specs.{Content.{MeansModel, MeansNone}, Fetched.{Fetched, Bytes, MayGive, EachFile, FileGave, WaitsForModel}, Files.{File, model_file, second_file, files_named, word}, Outcome.{OpensTo, Opens}}
 use Rattle.cl_engine.specs.declared.files.Files.TheVariants as files
 use Rattle.cl_engine.specs.declared.opening.FileFetch.TheVariants as fetch
 use Rattle.cl_engine.specs.declared.opening.OpenedModel.TheVariants as model_opened
 use Rattle.cl_engine.specs.declared.opening.Opened.TheVariants as opened
 
--- a fetch, without where its bytes lie in memory
-abbrev pub given : FileFetch → Fetched
-given (fetch.Bytes bytes) = Bytes bytes.items
-given fetch.Fault = Fault
-given fetch.TooLong = TooLong
-
--- ---- a model
-
 -- nothing comes next
 abbrev pub NoNext : {X : Type 0} → X → Outcome → Type 0
 NoNext content found = ⊥
+
+-- ---- a file
+
+-- the fetch of the file of this place gave these bytes, or stops the command with this outcome
+abbrev pub IsFetchedAs : (place : ℕ) → Fetched → FileFetch → Type 0
+IsFetchedAs place fetched (fetch.Bytes bytes) = fetched ≡ Bytes bytes.items
+IsFetchedAs place fetched (fetch.Stopped found) = OpensTo place fetched NoNext found
+
+-- what the fetch of the file of this name and this place gave, of at most so many bytes
+pub record HasFetched (shelf : ShelfCall) (name : List ℕ) (place limit : ℕ) (gives : FileFetch) : Type 0 where
+  pub fetched : Fetched
+  pub may : MayGive shelf name limit fetched
+  pub is : IsFetchedAs place fetched gives
+
+-- ---- a model
 
 -- the model of these bytes, whose first refusal this is, is this valid one, or is refused with this
 abbrev pub IsValidatedAs : (bytes : List ℕ) → SystemModel → Option Refusal → OpenedModel → Type 0
