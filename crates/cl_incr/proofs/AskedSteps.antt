@@ -7,7 +7,7 @@ use Rattle.std.proofs.lemmas.List.{get_or_append_left}
 use Rattle.std.proofs.lemmas.List.Elements.{All-append, All-nil, All-cons}
 use Rattle.std.proofs.Math.Seq.{get_or-append_seam}
 use Rattle.cl_model.specs.declared.model.SystemModel.{SystemModel}
-use Rattle.cl_incr.specs.{Changed.{IsChangedTask, IsChangedChain, AsksForChanges}, Inner.Asked.{AsksBelow, AsksOne, AsksTasks, AsksChains}}
+use Rattle.cl_incr.specs.{Changed.{AsksForChanges}, Inner.Asked.{AsksBelow, AsksOne, AsksTasks, AsksChains}}
 
 -- ---- a list with one more number
 
@@ -87,10 +87,10 @@ module _ (IsChanged : ℕ → Type 0) (each : ℕ) where
     few = asks.few;
   }
 
-  -- those for one more, where no further one is asked
-  pub asks_last : (n count before now after : ℕ) → AsksBelow IsChanged each n before now → AsksOne (IsChanged n) each now after → n < count
+  -- those for one more, of which there are more
+  pub asks_more_of : (n count before now after : ℕ) → AsksBelow IsChanged each n before now → AsksOne (IsChanged n) each now after → n < count
       → AsksBelow IsChanged each count before after
-  asks_last n count before now after asks one within =
+  asks_more_of n count before now after asks one within =
       asks_within (n + 1) count before after (asks_next n before now after asks one) (omega (arith, within))
 
 -- ---- together
@@ -120,37 +120,3 @@ module _ (old new : SystemModel) where
     changed_chains = of_chains.changed;
     few = omega (arith, of_tasks.few, of_chains.few);
   }
-
-  -- those for one chain
-  pub asks_for_chain : (chain before after : ℕ) → chain < length new.chains → AsksOne (IsChangedChain old new chain) 2 before after
-      → AsksForChanges old new before after
-  asks_for_chain chain before after within asks =
-      asks_for_changes 0 (length new.chains) before before after (asks_none (IsChangedTask old new) 1 before)
-      (asks_last (IsChangedChain old new) 2 chain (length new.chains) before before after
-      (asks_within (IsChangedChain old new) 2 0 chain before before (asks_none (IsChangedChain old new) 2 before) (omega arith)) asks within)
-
--- ---- along a rising list
-
-module _ (IsChanged : ℕ → Type 0) (each count : ℕ) (numbers : List ℕ) where
-  -- the steps for the numbers before a place
-  pub record AsksBefore (index before after : ℕ) : Type 0 where
-    pub bound : ℕ
-    pub asks : AsksBelow IsChanged each bound before after
-    pub few : bound ≤ count
-    pub next : index < length numbers → bound ≤ get_or numbers index 0
-
-  pub asks_start : (steps : ℕ) → AsksBefore 0 steps steps
-  asks_start steps = record { bound = 0; asks = asks_none IsChanged each steps; few = omega arith; next = λ within. omega arith }
-
-  pub asks_on : IsStrictlyIncreasing numbers → All (λ number. number < count) numbers → (index before now after : ℕ) → index < length numbers
-      → AsksBefore index before now → AsksOne (IsChanged (get_or numbers index 0)) each now after → AsksBefore (index + 1) before after
-  asks_on rising known index before now after within asks one = record {
-    bound = get_or numbers index 0 + 1;
-    asks = asks_next IsChanged each (get_or numbers index 0) before now after
-        (asks_within IsChanged each asks.bound (get_or numbers index 0) before now asks.asks (asks.next within)) one;
-    few = omega (arith, known index 0 within);
-    next = λ more. omega (arith, rising index more);
-  }
-
-  pub asks_all : (index before after : ℕ) → AsksBefore index before after → AsksBelow IsChanged each count before after
-  asks_all index before after asks = asks_within IsChanged each asks.bound count before after asks.asks asks.few

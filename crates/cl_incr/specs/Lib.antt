@@ -1,5 +1,4 @@
 pub mod Questions
 pub mod Changed
-pub mod Touched
 pub mod SessionState
 pub mod Inner

@@ -3,22 +3,16 @@
 //! edit changed.
 #![tactic(auto)]
 
-mod chain_lists;
+mod anew;
 mod chains;
 mod comparing;
 pub mod laws;
-mod mend;
-mod news;
-mod numbers;
-mod passing;
 mod put;
 mod question;
-mod reach;
 mod session;
-mod shift;
+mod standing;
 mod tasks;
-mod touch;
-mod twin;
+mod timings;
 
 pub use question::{GroupQuestion, HopLine};
 pub use session::Session;

@@ -5,7 +5,7 @@ ghost use Rattle.cl_model.specs.declared.model.SystemModel.{SystemModel};
 ghost use Rattle.cl_runs.specs.{SystemOf.system_of, TaskTiming.timing_at};
 ghost use Rattle.cl_bound.specs.Answers.{answer_to, answers_of};
 ghost use Rattle.cl_analyse.specs.Headline.{question_at};
-ghost use Rattle.cl_incr.specs.{Changed.IsChangedTask, Inner.{Kept.IsKeptTask, Asked.AsksOne}};
+ghost use Rattle.cl_incr.specs.{Changed.IsChangedTask, Inner.{Kept.IsKeptTask, Asked.{AsksOne, AsksTasks}, Standing.{StandsAs, AreStanding}}};
 
 use cl_analyse::answer_question;
 use cl_bound::TaskAnswer;
@@ -51,7 +51,7 @@ fn kept_answer(
 
 /// Finds the answer for a task of the new model. Counts at most one step, and only where its
 /// question is changed.
-pub(crate) fn answer_task<L: Ledger>(
+fn answer_task<L: Ledger>(
     alloc: Global,
     old: &ValidModel,
     answers: &List<TaskAnswer>,
@@ -70,4 +70,52 @@ pub(crate) fn answer_task<L: Ledger>(
         Some(kept) => Ok(kept),
         None => Ok(answer_question(&question, steps)),
     }
+}
+
+/// Finds the answer for a task of the new model: it keeps that of the task as which it stands, if
+/// there is one.
+fn keep_or_answer<L: Ledger>(
+    alloc: Global,
+    old: &ValidModel,
+    answers: &List<TaskAnswer>,
+    was: u32,
+    new: &ValidModel,
+    task: u32,
+    steps: &mut Steps<L>,
+) -> Result<TaskAnswer, NoMemory>
+    requires answers { answers.now ≡ answers_of (system_of old.now) }
+    requires task { task < length new.now.tasks }
+    requires was { was < length old.now.tasks → StandsAs old.now new.now was task }
+    ensures answer { IfOk result
+        (λ answer. answer ≡ answer_to (system_of new.now) (timing_at (system_of new.now) task)) }
+    ensures steps { AsksOne (IsChangedTask old.now new.now task) 1 steps.old steps.new }
+{
+    if was < old.tasks() {
+        Ok(answers.as_slice()[was as usize])
+    } else {
+        answer_task(alloc, old, answers, new, task, steps)
+    }
+}
+
+/// Finds the answers for all tasks of the new model. Counts at most one step for each task with a
+/// changed question.
+pub(crate) fn answer_tasks<L: Ledger>(
+    alloc: Global,
+    old: &ValidModel,
+    answers: &List<TaskAnswer>,
+    standing: &[u32],
+    new: &ValidModel,
+    steps: &mut Steps<L>,
+) -> Result<List<TaskAnswer>, NoMemory>
+    requires answers { answers.now ≡ answers_of (system_of old.now) }
+    requires standing { AreStanding old.now new.now standing.now }
+    ensures answers { IfOk result (λ found. found ≡ answers_of (system_of new.now)) }
+    ensures steps { AsksTasks old.now new.now (length new.now.tasks) steps.old steps.new }
+{
+    let mut found = List::with_room(alloc, new.tasks() as usize)?;
+    for task in 0..new.tasks() {
+        let was = standing[task as usize];
+        found.push(keep_or_answer(alloc, old, answers, was, new, task, steps)?)?;
+    }
+    Ok(found)
 }

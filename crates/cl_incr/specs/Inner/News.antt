@@ -1,50 +1,57 @@
--- What is found anew where an edit reaches some tasks.
-use Rattle.std.specs.Prelude.{◌≡◌, ℕ, ◌<◌, ◌⊎◌, List, length, map, All, Contains}
-use Rattle.cl_model.specs.declared.model.SystemModel.{SystemModel}
-use Rattle.cl_runs.specs.{SystemOf.system_of, Requirements.{required_chain, requirement_at}}
-use Rattle.cl_hop.specs.Bounds.{Lengths}
-use Rattle.cl_bound.specs.Answers.{answers_of}
-use Rattle.cl_analyse.specs.declared.findings.ChainAnswer.{ChainAnswer, TheVariants.Bounds}
-use Rattle.cl_incr.specs.{declared.{chains.ChainFindings.ChainFindings, news.{FoundChain.FoundChain, News.News}, shift.Shift.{Shift, TheVariants.{Stays, At}}}, Inner.Kept.AreFoundOf}
+-- What is found anew of a model that follows another.
+use Rattle.std.specs.Prelude.{◌≡◌, ℕ, ◌<◌, ◌⊎◌, ◌==◌, List, [], ◌∷◌, ◌++◌, length, slice_set, unwrap_or, if◌then◌else◌, All}
+use Rattle.cl_model.specs.{declared.model.SystemModel.SystemModel, ByNumber.{chain_at, chain_named}}
+use Rattle.cl_runs.specs.SystemOf.{system_of}
+use Rattle.cl_bound.specs.{Answers.answers_of, Bounds.Lengths}
+use Rattle.cl_analyse.specs.{declared.findings.{ChainAnswer.{ChainAnswer, TheVariants.Bounds}, ExactAnswer.ExactAnswer, Findings.Findings}, ChainAnswers.{chain_answer_of, chain_answers_of, exact_answer_at, IsExactAnswer}}
+use Rattle.cl_incr.specs.declared.{put.FoundExact.FoundExact, anew.News.News}
 
--- the numbers of the chains of which something is found
-abbrev pub chains_found : List FoundChain → List ℕ
-chains_found found = map (λ (one : FoundChain). one.chain) found
+-- ---- where exact answers stand
 
--- what was found of a chain of the old model is found of it in the new one
-abbrev pub StaysFound : (old new : SystemModel) → (chain : ℕ) → Type 0
-StaysFound old new chain = (found : ChainFindings) → AreFoundOf old chain found → AreFoundOf new chain found
+-- the number under which a chain of the new model is looked for in the old one: its own where there are as many chains
+-- as before, and else that of the chain of its name
+abbrev pub chain_before : (old new : SystemModel) → (chain : ℕ) → ℕ
+chain_before old new chain =
+    if length old.chains == length new.chains then chain else unwrap_or (chain_named old (chain_at new chain).name) chain
 
--- the chains that are not in this list have the findings that they had
-abbrev pub StayFoundBut : (chains : List ℕ) → (old new : SystemModel) → Type 0
-StayFoundBut chains old new = (chain : ℕ) → chain < length new.chains → StaysFound old new chain ⊎ Contains chains chain
+-- the exact answers of the old model under the numbers that the chains have in the new one
+pub record AreMoved (old new : SystemModel) (exacts moved : List ExactAnswer) : Type 0 where
+  pub count : length moved ≡ length new.chains
+  pub each : (chain : ℕ) → chain < length new.chains → exact_answer_at moved chain ≡ exact_answer_at exacts (chain_before old new chain)
 
--- what is found is so of chains of a model
-abbrev pub AreAllFound : SystemModel → List FoundChain → Type 0
-AreAllFound model = All (λ (one : FoundChain). AreFoundOf model one.chain one.found)
+-- exact answers with some put in their places
+abbrev pub put_all : List FoundExact → List ExactAnswer → List ExactAnswer
+put_all [] exacts = exacts
+put_all (one ∷ found) exacts = put_all found (slice_set exacts one.chain one.exact)
 
--- a requirement that names one of these chains is in the list
-abbrev pub IsConcerned : SystemModel → (chains requirements : List ℕ) → (requirement : ℕ) → Type 0
-IsConcerned model chains requirements requirement =
-    Contains chains (required_chain model (requirement_at model requirement)) → Contains requirements requirement
+-- ---- what is noted
+
+-- an exact answer is that for a chain of a model
+abbrev pub IsExactOf : SystemModel → (chain : ℕ) → ExactAnswer → Type 0
+IsExactOf model chain answer = IsExactAnswer model chain (chain_answer_of model (chain_at model chain)) answer
+
+-- the exact answer for a chain is the one before, or one is noted behind the others
+abbrev pub IsNoted : (old new : SystemModel) → (exacts : List ExactAnswer) → (chain : ℕ) → (before after : List FoundExact) → Type 0
+IsNoted old new exacts chain before after =
+    ((after ≡ before) × IsExactOf new chain (exact_answer_at exacts (chain_before old new chain)))
+    ⊎ ((answer : ExactAnswer) × (after ≡ before ++ (record { chain = chain; exact = answer }) ∷ []) × IsExactOf new chain answer)
+
+-- with those that are noted in their places, the first exact answers are those of the new model
+pub record AreNoted (old new : SystemModel) (exacts : List ExactAnswer) (count : ℕ) (noted : List FoundExact) : Type 0 where
+  pub below : All (λ (one : FoundExact). one.chain < count) noted
+  pub each : (moved : List ExactAnswer) → AreMoved old new exacts moved → (chain : ℕ) → chain < count
+      → IsExactOf new chain (exact_answer_at (put_all noted moved) chain)
+
+-- ---- all
 
 -- with the news in their places, the findings of the old model are those of the new one
-pub record AreNewsOf (old new : SystemModel) (news : News) : Type 0 where
+pub record AreNewsOf (old : SystemModel) (findings : Findings) (new : SystemModel) (news : News) : Type 0 where
   pub tasks : news.tasks ≡ answers_of (system_of new)
-  pub chains_below : All (λ chain. chain < length new.chains) (chains_found news.chains.items)
-  pub chains : AreAllFound new news.chains.items
-  pub other_chains : StayFoundBut (chains_found news.chains.items) old new
-  pub requirements_below : All (λ requirement. requirement < length new.requirements) news.requirements.items
-  pub requirements : (requirement : ℕ) → requirement < length new.requirements
-      → IsConcerned new (chains_found news.chains.items) news.requirements.items requirement
+  pub chains : news.chains.bounds ≡ chain_answers_of new
+  pub noted : AreNoted old new findings.exacts (length new.chains) news.chains.noted.items
+  pub moved : AreMoved old new findings.exacts (unwrap_or news.moved findings.exacts)
+  pub verdicts : length news.verdicts ≡ length new.requirements
 
--- ---- numbers that are named
-
--- a chain has bounds, so that its answer names no task
+-- a chain has bounds
 abbrev pub HasBounds : ChainAnswer → Type 0
 HasBounds answer = (bounds : Lengths) × (answer ≡ Bounds bounds)
-
--- an answer names no task whose number moves
-abbrev pub NamesNoMoved : Shift → ChainAnswer → Type 0
-NamesNoMoved Stays answer = Unit {0}
-NamesNoMoved (At gone) answer = HasBounds answer
