@@ -45,14 +45,7 @@ pub(crate) fn news_of<L: Ledger>(
     ensures steps { AsksForChanges old.now new.now steps.old steps.new }
 {
     let mut standing = standing_on_cores(alloc, old, new)?;
-    let tasks = answer_tasks(
-        alloc,
-        old,
-        &findings.tasks,
-        standing.as_slice(),
-        new,
-        steps,
-    )?;
+    let tasks = answer_tasks(alloc, old, &findings.tasks, standing.as_slice(), new, steps)?;
     note_others(old, &findings.tasks, new, &tasks, &mut standing);
     let chains = find_chains(
         alloc,

@@ -81,20 +81,12 @@ fn group_stays(one: Group, standing: &[u32], other: Group) -> bool
     requires { other.task < length standing.now }
     ensures { IsTrue result → IsNotedGroup standing.now one other }
 {
-    one.first == other.first
-        && one.last == other.last
-        && standing[other.task as usize] == one.task
+    one.first == other.first && one.last == other.last && standing[other.task as usize] == one.task
 }
 
 /// Whether a chain of the new model has the groups of one of the old model, and all their tasks
 /// stand.
-fn groups_stay(
-    old: &ValidModel,
-    was: u32,
-    standing: &[u32],
-    new: &ValidModel,
-    chain: u32,
-) -> bool
+fn groups_stay(old: &ValidModel, was: u32, standing: &[u32], new: &ValidModel, chain: u32) -> bool
     requires was { was < length old.now.chains }
     requires chain { chain < length new.now.chains }
     requires standing { AreStanding old.now new.now standing.now }

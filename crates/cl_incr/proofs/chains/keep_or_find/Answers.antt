@@ -25,6 +25,6 @@ returns-then-chain_stays-clause-noted g c =
     inl (
       refl,
       subst (λ (n : ℕ). IsExactOf new c.args.chain (exact_answer_at exacts n)) c.chain_before-was.ensures
-      (exact_answers_same old new c.plain-old.ensures.valid was c.args.chain known asked.question asked.old_asks asked.new_asks (exact_answer_at exacts was)
-      (c.requires.findings.exacts.each was known)),
+          (exact_answers_same old new c.plain-old.ensures.valid was c.args.chain known asked.question asked.old_asks asked.new_asks (exact_answer_at exacts was)
+          (c.requires.findings.exacts.each was known)),
     )
