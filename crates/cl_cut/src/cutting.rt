@@ -74,7 +74,10 @@ fn best_of<L: Ledger>(
         let rear = rear_from(alloc, model, groups, rears.as_slice(), settled, steps)?;
         rears.push(rear)?;
     }
-    Ok(rears.pop().unwrap())
+    let Some(best) = rears.pop() else {
+        unreachable!();
+    };
+    Ok(best)
 }
 
 /// Finds the best cut of a chain of a valid model, from the findings of the model. Of all cuts into
