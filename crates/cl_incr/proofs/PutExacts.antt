@@ -3,7 +3,7 @@ use Rattle.std.proofs.Common.{◌≡◌, ℕ, ◌+◌, ◌<◌, inl, inr, List, 
 use Rattle.std.specs.Prelude.{All, set}
 use Rattle.std.proofs.lemmas.Bool.Decides.{eqb_tells}
 use Rattle.std.proofs.lemmas.List.{length-set, get_or-map, get_or-set_same, get_or-set_other}
-use Rattle.std.proofs.lemmas.List.Elements.{All-nil, All-head, All-tail, All-push}
+use Rattle.std.proofs.lemmas.List.Elements.{All-head, All-tail, All-push}
 use Rattle.cl_model.specs.declared.model.SystemModel.{SystemModel}
 use Rattle.cl_runs.specs.Requirements.{no_requirement, requirement_at}
 use Rattle.cl_analyse.specs.{declared.findings.{ChainAnswer.ChainAnswer, ExactAnswer.{ExactAnswer, TheVariants.ChainLate}, Verdict.TheVariants.Unshown}, ChainAnswers.{exact_answer_at, AreExactAnswers}, Verdicts.{verdict_at, verdict_of, verdicts_of}}
@@ -33,12 +33,6 @@ put_other chain (one ∷ found) exacts below =
 -- ---- what is noted
 
 module _ (old new : SystemModel) (exacts : List ExactAnswer) where
-  pub none_noted : (noted : List FoundExact) → noted ≡ [] → AreNoted old new exacts 0 noted
-  none_noted noted none = record {
-    below = subst (All (λ (one : FoundExact). one.chain < 0)) (sym none) (All-nil (λ (one : FoundExact). one.chain < 0));
-    each = λ moved are chain within. absurd (omega (arith, within));
-  }
-
   module _ (n : ℕ) (known : n < length new.chains) (before : List FoundExact) (so_far : AreNoted old new exacts n before) where
     -- the places before a number, and that of the number
     each_to : (P : ℕ → Type 0) → ((k : ℕ) → k < n → P k) → P n → (k : ℕ) → k < n + 1 → P k

@@ -1,25 +1,15 @@
 -- The tasks that are noted to stand as they did.
 use Rattle.std.proofs.Common.{◌≡◌, ℕ, ◌+◌, ◌<◌, inl, inr, List, [], ◌∷◌, ◌++◌, length, get_or, take, refl, sym, ap, ◌∙◌, subst, arith}
-use Rattle.std.specs.Prelude.{replicate, set}
+use Rattle.std.specs.Prelude.{set}
 use Rattle.std.proofs.lemmas.Bool.Decides.{eqb_tells}
-use Rattle.std.proofs.lemmas.List.{take_more, get_or_default, length-set, length-replicate, get_or-replicate, get_or-set_same, get_or-set_other}
-use Rattle.cl_model.specs.declared.{model.SystemModel.SystemModel, group.Group.Group}
+use Rattle.std.proofs.lemmas.List.{take_more, get_or_default, length-set, get_or-set_same, get_or-set_other}
+use Rattle.cl_model.specs.declared.{model.SystemModel.SystemModel}
 use Rattle.cl_runs.specs.{SystemOf.system_of, TaskTiming.timing_at}
 use Rattle.cl_bound.specs.{declared.answer.TaskAnswer.{TaskAnswer, TheVariants.Late}, Answers.{answer_to, answer_at, answers_of}}
 use Rattle.cl_incr.proofs.KeptAnswers.{answer_is, answer_count}
-use Rattle.cl_incr.specs.Inner.Standing.{StandsAs, AreStanding, IsNotedGroup, StaysGroup}
+use Rattle.cl_incr.specs.Inner.Standing.{StandsAs, AreStanding}
 
 module _ (old new : SystemModel) where
-  -- none yet
-  pub none_standing : (standing : List ℕ) → standing ≡ replicate (length new.tasks) (length old.tasks) → AreStanding old new standing
-  none_standing standing are = record {
-    count = ap length are ∙ length-replicate (length new.tasks) (length old.tasks);
-    each = λ task within known.
-        let past : get_or standing task 0 ≡ length old.tasks
-        = ap (λ (l : List ℕ). get_or l task 0) are ∙ get_or-replicate (length new.tasks) task (length old.tasks) 0 within in
-        absurd (omega (arith, known, past));
-  }
-
   module _ (standing : List ℕ) (are : AreStanding old new standing) (task was : ℕ) (is_task : task < length new.tasks)
       (stands : was < length old.tasks → StandsAs old new was task) where
     -- one more
@@ -36,17 +26,6 @@ module _ (old new : SystemModel) where
             subst (λ n. StandsAs old new n k) (sym at) (are.each k within (subst (λ n. n < length old.tasks) at known))
       ];
     }
-
-  -- a group for whose task the task of one of the old model is noted stays as that
-  pub stays_group : (standing : List ℕ) (one other : Group) → AreStanding old new standing → one.task < length old.tasks → other.task < length new.tasks
-      → IsNotedGroup standing one other → StaysGroup old new one other
-  stays_group standing one other are known within noted = record {
-    first = noted.first;
-    last = noted.last;
-    was_known = known;
-    is_known = within;
-    stands = subst (λ n. StandsAs old new n other.task) noted.task (are.each other.task within (subst (λ n. n < length old.tasks) (sym noted.task) known));
-  }
 
 -- the answer of the task as which one stands is its answer
 pub standing_answer : (old new : SystemModel) (answers : List TaskAnswer) (was task : ℕ) (found : TaskAnswer) → answers ≡ answers_of (system_of old)

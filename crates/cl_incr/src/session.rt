@@ -92,7 +92,10 @@ impl Session {
     }
 
     /// Ends the session, and frees all that it holds.
-    pub fn close(self) {}
+    pub fn close(self) {
+        // not by the end of the scope, since a check of that opens each field
+        mem::drop(self);
+    }
 
     /// The findings of the model, which are those of a fresh analysis.
     pub fn findings(&self) -> &Findings
