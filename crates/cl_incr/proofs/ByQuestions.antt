@@ -3,12 +3,13 @@ use Rattle.std.proofs.Common.{◌≡◌, ℕ, ◌<◌, Bool, true, false, length
 use Rattle.cl_model.specs.{declared.model.SystemModel.SystemModel, ByNumber.chain_at, Groups.{steps_of, groups_at}, Validity.IsValid}
 use Rattle.cl_model.proofs.GroupFacts.{groups_at_some}
 use Rattle.cl_runs.specs.{SystemOf.system_of, TaskTiming.timing_at}
+use Rattle.cl_hop.specs.Bounds.{Lengths}
 use Rattle.cl_resp.specs.Response.{response_to}
-use Rattle.cl_bound.specs.{Answers.{answer_with, answer_to, answers_of}, Bounds.{Lengths, bounds_of}}
+use Rattle.cl_bound.specs.{Answers.{answer_with, answer_to, answers_of}, Bounds.bounds_of}
 use Rattle.cl_exact.specs.{TimedPeriodic.is_timed_periodic_chain, Rhythms.rhythms}
+use Rattle.cl_exact.proofs.SameRhythms.{same_timed, same_limit, within_also, past_also, lengths_also}
 use Rattle.cl_analyse.specs.{declared.findings.{ChainAnswer.TheVariants.{Bounds, Late}, ExactAnswer.{ExactAnswer, TheVariants.{Exact, Past, NotTimed, ChainLate}}}, ChainAnswers.{first_late, chain_answer, chain_answer_of, IsTimelyAnswer, IsExactAnswer}, Headline.question_at}
 use Rattle.cl_incr.specs.Questions.{hop_lines, ChainQuestion, question_of_groups, unless_late, chain_question}
-use Rattle.cl_exact.proofs.SameRhythms.{same_timed, same_limit, within_also, past_also, lengths_also}
 use Rattle.cl_incr.proofs.GroupQuestions.{AskTheSame, same_rhythms, same_bounds}
 
 -- ---- tasks

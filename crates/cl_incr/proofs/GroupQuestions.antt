@@ -6,7 +6,8 @@ use Rattle.std.proofs.lemmas.Simd.{map-map}
 use Rattle.cl_model.specs.{declared.{group.Group.Group, task.AccessKind.{AccessKind, TheVariants.{Explicit, Implicit, Timed}}}, Timing.{greatest_distance, greatest_jitter}}
 use Rattle.cl_runs.specs.TaskTiming.{System, timing_at}
 use Rattle.cl_comm.specs.{declared.spot.Spot.Spot, Windows.{spot_at, window_of}}
-use Rattle.cl_bound.specs.{Answers.{answers_of, answer_at, response_in}, Bounds.{settled_timing, settled_timings, bounds_of}, Ends.{Ends, ends_of, lags_from, lags}, Hops.{group_timing, saves, lag}}
+use Rattle.cl_hop.specs.{Ends.{Ends, ends_of, lags_from, lags}, Hops.{group_timing, saves, lag}}
+use Rattle.cl_bound.specs.{Answers.{answers_of, answer_at, response_in}, Bounds.{settled_timing, settled_timings, bounds_of}}
 use Rattle.cl_bound.proofs.SameEnds.{same_bounds as same_bounds_of}
 use Rattle.cl_exact.specs.Rhythms.{Rhythm, rhythms}
 use Rattle.cl_incr.specs.{declared.question.{GroupQuestion.GroupQuestion, HopLine.{HopLine, TheVariants.{SameTask, Saving, Plain}}}, Questions.{group_question, hop_line, hop_lines_from, hop_lines}}

@@ -8,7 +8,8 @@ use Rattle.cl_model.specs.{declared.{model.SystemModel.SystemModel, group.Group.
 use Rattle.cl_runs.specs.{SystemOf.system_of, TaskTiming.{Timing, timing_at}}
 use Rattle.cl_runs.proofs.ModelSystem.{count_is, system_sound}
 use Rattle.cl_comm.specs.Windows.{spot_at}
-use Rattle.cl_bound.specs.{declared.answer.TaskAnswer.TaskAnswer, Answers.{answers_of, answer_at, is_late, response_in, NoneIsLate}, Bounds.{Lengths, settled_timing, bounds_of}, Hops.{group_timing, saves}}
+use Rattle.cl_hop.specs.{Bounds.Lengths, Hops.{group_timing, saves}}
+use Rattle.cl_bound.specs.{declared.answer.TaskAnswer.TaskAnswer, Answers.{answers_of, answer_at, is_late, response_in, NoneIsLate}, Bounds.{settled_timing, bounds_of}}
 use Rattle.cl_analyse.specs.{declared.findings.ChainAnswer.TheVariants.Bounds, ChainAnswers.{first_late, chain_answer, chain_answer_of}}
 use Rattle.cl_analyse.proofs.FirstLate.{settled_groups, none_late}
 use Rattle.cl_incr.specs.{declared.question.{GroupQuestion.GroupQuestion, HopLine.TheVariants.{SameTask, Saving, Plain}}, Questions.{group_question, hop_line, hop_lines, chain_question}, Inner.{Kept.AreBothAsked, News.HasBounds, Standing.{StaysGroup, StayGroups}}}

@@ -4,9 +4,9 @@ use Rattle.std.specs.Prelude.{filter, map, nat_le}
 use Rattle.std.specs.List.{range_with_len}
 use Rattle.std.proofs.lemmas.Simd.{map-map}
 use Rattle.cl_model.specs.{declared.model.SystemModel.SystemModel, ByNumber.{no_task, task_at, core_of, tasks_of_core}, Timing.greatest_jitter, Holds.greatest_by}
-use Rattle.cl_runs.specs.{SystemOf.{timing_of, system_of}, TaskTiming.{Timing, System, timing_at}, Priorities.is_above}
+use Rattle.cl_runs.specs.{SystemOf.{timing_of, system_of}, TaskTiming.{Timing, System, timing_at}, Priorities.is_above, ExecutionTimes.greatest_execution}
 use Rattle.cl_runs.proofs.ModelSystem.{timing_is}
-use Rattle.cl_resp.specs.{Question.{greatest_execution, longest_hold, block_of, taken_by, question_of}, Response.response_to}
+use Rattle.cl_resp.specs.{Question.{longest_hold, block_of, taken_by, question_of}, Response.response_to}
 use Rattle.cl_resp.proofs.Filters.{by_number, filter-map, filter-both}
 use Rattle.cl_bound.specs.Answers.{answer_with, answer_to}
 use Rattle.cl_incr.specs.Inner.Standing.{timing_in, HasSameTimings, StandsAs}

@@ -8,9 +8,10 @@ use Rattle.cl_model.specs.{declared.{model.SystemModel.SystemModel, group.Group.
 use Rattle.cl_runs.specs.{SystemOf.{timing_of, system_of}, TaskTiming.{Timing, System, timing_at}}
 use Rattle.cl_runs.proofs.ModelSystem.{timing_is}
 use Rattle.cl_comm.specs.Windows.{spot_at}
-use Rattle.cl_bound.specs.{declared.answer.TaskAnswer.TaskAnswer, Answers.{answers_of, answer_at, response_in}, Bounds.settled_timing, Hops.{group_timing, saves}}
-use Rattle.cl_incr.specs.{declared.question.{GroupQuestion.GroupQuestion, HopLine.{HopLine, TheVariants.Plain}}, Questions.{group_question, hop_line, hop_lines_from, hop_lines, ChainQuestion, question_of_groups, unless_late, chain_question}, Inner.Kept.AreBothAsked}
+use Rattle.cl_hop.specs.Hops.{group_timing, saves}
+use Rattle.cl_bound.specs.{declared.answer.TaskAnswer.TaskAnswer, Answers.{answers_of, answer_at, response_in}, Bounds.settled_timing}
 use Rattle.cl_analyse.specs.ChainAnswers.{first_late}
+use Rattle.cl_incr.specs.{declared.question.{GroupQuestion.GroupQuestion, HopLine.{HopLine, TheVariants.Plain}}, Questions.{group_question, hop_line, hop_lines_from, hop_lines, ChainQuestion, question_of_groups, unless_late, chain_question}, Inner.Kept.AreBothAsked}
 
 -- ---- a group and a hop of a model
 

@@ -4,7 +4,8 @@ use Rattle.std.specs.Prelude.{ℕ, ◌==◌, if◌then◌else◌, List, [], ◌�
 use Rattle.cl_model.specs.{declared.{group.Group.Group, model.SystemModel.SystemModel}, ByNumber.chain_at, Groups.{steps_of, groups_at}}
 use Rattle.cl_runs.specs.{SystemOf.system_of, TaskTiming.{System, timing_at}}
 use Rattle.cl_comm.specs.Windows.{spot_at}
-use Rattle.cl_bound.specs.{declared.answer.TaskAnswer.TaskAnswer, Answers.{answers_of, answer_at, response_in}, Bounds.settled_timing, Hops.saves}
+use Rattle.cl_hop.specs.Hops.{saves}
+use Rattle.cl_bound.specs.{declared.answer.TaskAnswer.TaskAnswer, Answers.{answers_of, answer_at, response_in}, Bounds.settled_timing}
 use Rattle.cl_analyse.specs.ChainAnswers.{first_late}
 use Rattle.cl_incr.specs.declared.question.{GroupQuestion.GroupQuestion, HopLine.{HopLine, TheVariants.{SameTask, Saving, Plain}}}
 

@@ -3,7 +3,8 @@
 ghost use Rattle.std.specs.Prelude.{◌≡◌, ◌≢◌, ◌-◌, ◌<◌, ◌↔◌, length, map, IsTrue};
 ghost use Rattle.cl_model.specs.Groups.{group_at, groups_at, IsGroupOf};
 ghost use Rattle.cl_runs.specs.SystemOf.{system_of};
-ghost use Rattle.cl_bound.specs.{Answers.{answers_of, answer_at, response_in}, Bounds.settled_timing, Hops.saves};
+ghost use Rattle.cl_hop.specs.Hops.{saves};
+ghost use Rattle.cl_bound.specs.{Answers.{answers_of, answer_at, response_in}, Bounds.settled_timing};
 ghost use Rattle.cl_incr.specs.{Questions.{group_question, hop_line, hop_lines, chain_question}, Inner.Kept.AreBothAsked};
 
 use crate::question::{GroupQuestion, HopLine};

@@ -2,7 +2,8 @@
 use Rattle.std.specs.Prelude.{◌≡◌, ℕ, ◌<◌, ◌⊎◌, ◌==◌, List, [], ◌∷◌, ◌++◌, length, slice_set, unwrap_or, if◌then◌else◌, All}
 use Rattle.cl_model.specs.{declared.model.SystemModel.SystemModel, ByNumber.{chain_at, chain_named}}
 use Rattle.cl_runs.specs.SystemOf.{system_of}
-use Rattle.cl_bound.specs.{Answers.answers_of, Bounds.Lengths}
+use Rattle.cl_hop.specs.Bounds.{Lengths}
+use Rattle.cl_bound.specs.Answers.{answers_of}
 use Rattle.cl_analyse.specs.{declared.findings.{ChainAnswer.{ChainAnswer, TheVariants.Bounds}, ExactAnswer.ExactAnswer, Findings.Findings}, ChainAnswers.{chain_answer_of, chain_answers_of, exact_answer_at, IsExactAnswer}}
 use Rattle.cl_incr.specs.declared.{put.FoundExact.FoundExact, anew.News.News}
 
