@@ -1,7 +1,31 @@
 //! Tests of counted arrivals: from any moment on, before 0 too.
+ghost use Rattle.cl_stim.specs.Phase.{IsPhaseInRange};
+
 use cl_cycle::{arrivals_from, arrivals_of};
 use cl_model::StimulusKind;
-use cl_stim::MOST_WIDTH;
+use cl_stim::{MOST_WIDTH, Phase};
+use std::process::Abort;
+
+/// Counts the arrivals from a moment on, where it is near to 0 and the window is in range.
+fn counted(stimulus: &Phase, from: i64, width: u64) -> Option<u64>
+    requires { IsPhaseInRange stimulus.now }
+{
+    if -1_000 <= from && from <= 1_000 && width <= MOST_WIDTH {
+        Some(arrivals_from(stimulus, from, width))
+    } else {
+        None
+    }
+}
+
+/// Asserts how many arrivals there are from each moment on in each window.
+fn assert_arrivals(rt: &impl Abort, stimulus: &Phase, cases: &[(i64, u64, u64)])
+    requires { IsPhaseInRange stimulus.now }
+{
+    for (from, width, arrivals) in cases {
+        let found = counted(stimulus, *from, *width);
+        assert_eq!(rt; found, Some(*arrivals), "from {from} in {width} ticks");
+    }
+}
 
 #[test]
 fn counts_the_arrivals_of_a_burst_that_wraps(rt: HostRuntime) {
@@ -32,16 +56,7 @@ fn counts_the_arrivals_of_a_burst_that_wraps(rt: HostRuntime) {
         (-1_000, 1_010, 50),
         (-1_000, 1_011, 51),
     ];
-    for (from, width, arrivals) in cases {
-        assert!(rt; -1_000 <= from);
-        assert!(rt; from <= 1_000);
-        assert!(rt; width <= MOST_WIDTH);
-        assert_eq!(rt;
-            arrivals_from(&bursts, from, width),
-            arrivals,
-            "from {from} in {width} ticks"
-        );
-    }
+    assert_arrivals(&rt, &bursts, &cases);
 }
 
 #[test]
@@ -70,16 +85,7 @@ fn counts_the_arrivals_of_single_jobs(rt: HostRuntime) {
         (-100, 1_000, 100),
         (-6, MOST_WIDTH, 200_000_000_000),
     ];
-    for (from, width, arrivals) in cases {
-        assert!(rt; -1_000 <= from);
-        assert!(rt; from <= 1_000);
-        assert!(rt; width <= MOST_WIDTH);
-        assert_eq!(rt;
-            arrivals_from(&singles, from, width),
-            arrivals,
-            "from {from} in {width} ticks"
-        );
-    }
+    assert_arrivals(&rt, &singles, &cases);
 }
 
 #[test]

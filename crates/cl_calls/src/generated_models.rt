@@ -1,11 +1,8 @@
 //! Tests of generated models, against values that two other programs computed from the format
 //! alone.
-ghost use Rattle.cl_model.specs.Ranges.{IsInRange};
-
 use cl_gen::generate;
 use cl_model::{MOST_TASKS, RunnableDef, SystemModel, TaskDef};
 use cl_time::NoMemory;
-use cl_valid::{in_range, validate};
 use std::alloc::Global;
 use std::test::Fail;
 
@@ -75,7 +72,9 @@ fn of_seed(alloc: Global, seed: u64, tasks: u64) -> Result<SystemModel, Fail> {
 /// Writes what is found in that model.
 fn found(alloc: Global, seed: u64, tasks: u64, asked: Asked) -> Result<String, Fail> {
     let model = of_seed(alloc, seed, tasks)?;
-    Ok(found_in(alloc, &model, asked)?)
+    let text = found_in(alloc, &model, asked);
+    drop(model);
+    Ok(text?)
 }
 
 #[test]
@@ -110,31 +109,5 @@ fn generates_a_chain_through_four_tasks(rt: HostRuntime) -> Result<(), Fail> {
 fn generates_a_model_of_three_tasks(rt: HostRuntime) -> Result<(), Fail> {
     let counts = found(rt.alloc(), 9, 3, Asked::Counts)?;
     assert_eq!(rt; counts.as_str(), "[1, 9, 6, 3, 0, 0]");
-    Ok(())
-}
-
-/// Checks whether a model in range is found valid.
-fn is_valid(alloc: Global, model: SystemModel) -> bool
-    requires { IsInRange model }
-{
-    validate(alloc, model).is_ok()
-}
-
-/// Checks whether the model of a seed and a number of tasks is found in range and valid.
-fn is_found_valid(alloc: Global, seed: u64, tasks: u64) -> Result<bool, Fail> {
-    let model = of_seed(alloc, seed, tasks)?;
-    if !in_range(&model) {
-        return Ok(false);
-    }
-    Ok(is_valid(alloc, model))
-}
-
-#[test]
-fn generated_models_are_found_valid(rt: HostRuntime) -> Result<(), Fail> {
-    let alloc = rt.alloc();
-    assert!(rt; is_found_valid(alloc, 0, 1)?);
-    assert!(rt; is_found_valid(alloc, 7, 16)?);
-    assert!(rt; is_found_valid(alloc, 7, 17)?);
-    assert!(rt; is_found_valid(alloc, u64::MAX, MOST_TASKS as u64)?);
     Ok(())
 }

@@ -3,9 +3,9 @@
 #![tactic(auto)]
 
 #[cfg(test)]
-mod access;
-#[cfg(test)]
 mod cycles;
+#[cfg(test)]
+mod decimals;
 #[cfg(test)]
 mod generated_models;
 #[cfg(test)]
@@ -17,18 +17,8 @@ mod numbers;
 #[cfg(test)]
 mod outside;
 #[cfg(test)]
-mod reading;
-#[cfg(test)]
 mod responses;
-#[cfg(test)]
-mod runs;
 #[cfg(test)]
 mod stimuli;
 #[cfg(test)]
-mod texts;
-#[cfg(test)]
-mod validity;
-#[cfg(test)]
 mod wishes;
-#[cfg(test)]
-mod writing;

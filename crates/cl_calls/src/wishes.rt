@@ -95,7 +95,10 @@ fn valid(alloc: Global, model: SystemModel) -> Result<ValidModel, Fail>
 {
     match validate(alloc, model) {
         Ok(model) => Ok(model),
-        Err(_) => Err(Fail::from("a valid model")),
+        Err((refused, _)) => {
+            drop(refused);
+            Err(Fail::from("a valid model"))
+        }
     }
 }
 
@@ -128,12 +131,26 @@ fn spelled(alloc: Global, table: &JobTable) -> Result<String, NoMemory> {
     Ok(text)
 }
 
-/// Writes the table of 26 ticks in which all is wished to be the same number.
+/// Writes the table of 26 ticks of a model in which all is wished to be the same number.
+fn wished_of(
+    alloc: Global,
+    model: &ValidModel,
+    cores: &[bool],
+    wish: u64,
+) -> Result<String, NoMemory> {
+    let table = wished_table(alloc, model, 26, cores, &mut Always { wish })?;
+    let text = spelled(alloc, &table);
+    drop(table);
+    text
+}
+
+/// Writes the same of the model above. What is large is dropped by a call, since a proof that drops
+/// it at an exit is dear.
 fn wished(alloc: Global, cores: &[bool], wish: u64) -> Result<String, Fail> {
     let model = read(alloc)?;
-    let mut wishes = Always { wish };
-    let table = wished_table(alloc, &model, 26, cores, &mut wishes)?;
-    Ok(spelled(alloc, &table)?)
+    let text = wished_of(alloc, &model, cores, wish);
+    drop(model);
+    Ok(text?)
 }
 
 /// Counts the executions of the model in `ticks` ticks.
@@ -141,7 +158,9 @@ fn counted(alloc: Global, cores: &[bool], ticks: u64) -> Result<u64, Fail>
     requires { ticks ≤ MOST_RUN_TICKS }
 {
     let model = read(alloc)?;
-    Ok(count_executions(&model, ticks, cores))
+    let count = count_executions(&model, ticks, cores);
+    drop(model);
+    Ok(count)
 }
 
 #[test]
