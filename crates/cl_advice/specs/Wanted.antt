@@ -4,7 +4,7 @@ use Rattle.std.specs.Option.{option_map}
 use Rattle.toml.specs.Data.{Members}
 use Rattle.cl_text.specs.Line.{line}
 use Rattle.cl_model.specs.declared.limits.TheConstants.{MOST_TICKS, MOST_REQUIRED, MOST_PRIORITY, MOST_CORES, MOST_STIMULI, MOST_LABELS, MOST_TASKS, MOST_RUNNABLES, MOST_ACCESSES, MOST_CHAINS, MOST_STEPS, MOST_HOPS, MOST_REQUIREMENTS, LEAST_JOBS_OF_BURST, MOST_JOBS_OF_BURST}
-use Rattle.cl_model.specs.{declared.{place.{Part.Part, Key.Key, Place.Place}, refusal.{Code.Code, Refusal.Refusal}}, Place.key_text, Reading.{version_in, Tables.{access_words, stimulus_forms, requirement_words}}}
+use Rattle.cl_model.specs.{declared.{place.{Part.Part, Key.Key, Place.Place}, refusal.{Code.Code, Refusal.Refusal}}, Place.key_text, Reading.{version_in, Tables.{access_words, stimulus_forms, requirement_kind_words}}}
 use Rattle.cl_model.specs.declared.place.Part.TheVariants as part
 use Rattle.cl_model.specs.declared.place.Key.TheVariants as key
 use Rattle.cl_model.specs.declared.refusal.Code.TheVariants as code
@@ -102,7 +102,7 @@ want_text (want.Number low high) = range_text low high
 want_text want.Format = one_of (codes "chainlat" ∷ [])
 want_text want.Access = one_of (listed_words access_words)
 want_text (want.Kind version) = one_of (listed_words (stimulus_forms version))
-want_text (want.RequirementKind version) = one_of (listed_words (requirement_words version))
+want_text (want.RequirementKind version) = one_of (listed_words (requirement_kind_words version))
 want_text want.Boolean = codes "true or false"
 want_text (want.Array limit) = codes "an array"
 want_text want.Table = codes "a table"

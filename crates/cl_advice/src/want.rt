@@ -9,7 +9,7 @@ use cl_model::{
 };
 
 /// What the reader wants at a place of a model file.
-#[derive(Clone, Copy, Debug, PartialEq, Eq)]
+#[derive(Clone, Copy, PartialEq, Eq)]
 pub enum Want {
     /// A name.
     Name,

@@ -5,8 +5,8 @@ use Rattle.std.proofs.lemmas.Option.{none-some, slice_get_cases}
 use Rattle.std.proofs.Math.Seq.{get_or-append_seam}
 use Rattle.std.proofs.Math.ListN.{length-map}
 use Rattle.std.specs.Prelude.{Option, Some, None, slice_get}
-use Rattle.cl_model.specs.{declared.{model.SystemModel.SystemModel, chain.ChainDef.ChainDef}, Groups.{steps_of, groups_of}, ByNumber.no_chain}
-use Rattle.cl_runs.specs.{SystemOf.system_of, Requirements.no_requirement}
+use Rattle.cl_model.specs.{declared.{model.SystemModel.SystemModel, chain.ChainDef.ChainDef}, Groups.{steps_of, groups_of}, ByNumber.{no_chain, no_requirement}}
+use Rattle.cl_runs.specs.SystemOf.{system_of}
 use Rattle.cl_hop.specs.Bounds.{Lengths}
 use Rattle.cl_bound.specs.{declared.answer.TaskAnswer.TaskAnswer, Answers.answers_of, Bounds.bounds_of}
 use Rattle.cl_analyse.specs.{declared.findings.{ChainAnswer.{ChainAnswer, TheVariants.{Bounds, Late}}, ExactAnswer.{ExactAnswer, TheVariants.ChainLate}, Verdict.Verdict}, ChainAnswers.{first_late, chain_answer, chain_answer_of, chain_answers_of, exact_answer_at, IsExactAnswer}}

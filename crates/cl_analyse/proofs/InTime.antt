@@ -2,8 +2,8 @@
 use Rattle.std.proofs.Common.{◌≡◌, ℕ, ◌<◌, true, false, None, length, refl, ap, ◌∙◌, subst, arith}
 use Rattle.std.specs.Prelude.{All}
 use Rattle.std.proofs.Math.ListN.{length-map}
-use Rattle.cl_model.specs.{declared.model.SystemModel.SystemModel, Validity.IsValid}
-use Rattle.cl_runs.specs.{SystemOf.system_of, Responses.IsTimely, Requirements.{MeetsDeadlines, requirement_at, IsKept, IsInTime}}
+use Rattle.cl_model.specs.{declared.model.SystemModel.SystemModel, Validity.IsValid, ByNumber.requirement_at}
+use Rattle.cl_runs.specs.{SystemOf.system_of, Responses.IsTimely, Requirements.{MeetsDeadlines, IsKept, IsInTime}}
 use Rattle.cl_runs.proofs.{ModelSystem.{count_is, system_sound}, TimelyTasks.meets_deadlines}
 use Rattle.cl_resp.proofs.BusyWindowTask.{settled_timely}
 use Rattle.cl_bound.specs.{declared.answer.TaskAnswer.{TaskAnswer, TheVariants.Late}, Answers.{answer_to, answers_of, answer_at, is_late, response_in}}

@@ -6,9 +6,9 @@ use Rattle.std.proofs.Math.ListN.{length-map}
 use Rattle.std.proofs.Math.Nat.{lt_of_not-le}
 use Rattle.std.proofs.lemmas.List.{get_or-map, get_or_past}
 use Rattle.std.proofs.lemmas.List.Elements.{All-map}
-use Rattle.cl_model.specs.{declared.{model.SystemModel.SystemModel, chain.RequirementDef.RequirementDef, group.Step.Step}, Groups.{step_named, steps_of, no_step, groups_at}, ByNumber.{no_chain, chain_at}, Validity.IsValid}
+use Rattle.cl_model.specs.{declared.{model.SystemModel.SystemModel, chain.RequirementDef.RequirementDef, group.Step.Step}, Groups.{step_named, steps_of, no_step, groups_at}, ByNumber.{no_chain, chain_at, no_requirement, requirement_at}, Validity.IsValid}
 use Rattle.cl_model.proofs.{GroupFacts.groups_at_are, StepFacts.step_is_known, NamesKnown.steps_known}
-use Rattle.cl_runs.specs.{SystemOf.system_of, Chains.last_group, Requirements.{IsChainRequired, required_chain, no_requirement, requirement_at, IsKept, IsBroken}, Responses.AlwaysFinishesWithin}
+use Rattle.cl_runs.specs.{SystemOf.system_of, Chains.last_group, Requirements.{IsChainRequired, required_chain, IsKept, IsBroken}, Responses.AlwaysFinishesWithin}
 use Rattle.cl_runs.proofs.{ModelSystem.{count_is, system_sound}, Extension.some_legal, FirstFound.first_found}
 use Rattle.cl_hop.specs.{Bounds.{Lengths, AreBoundsOf}, Promises.AreSafe}
 use Rattle.cl_resp.specs.Response.{Response, IsSettled}

@@ -1,7 +1,7 @@
 -- What the findings of a model promise: the headline.
 use Rattle.std.specs.Prelude.{◌≡◌, ℕ, ◌<◌, ◌≤◌, false, length}
-use Rattle.cl_model.specs.{declared.model.SystemModel.SystemModel, ByNumber.chain_at, Groups.{steps_of, step_at, groups_at}}
-use Rattle.cl_runs.specs.{TaskTiming.timing_at, SystemOf.system_of, Requirements.{requirement_at, IsKept, IsBroken}, Responses.AlwaysFinishesWithin}
+use Rattle.cl_model.specs.{declared.model.SystemModel.SystemModel, ByNumber.{chain_at, requirement_at}, Groups.{steps_of, step_at, groups_at}}
+use Rattle.cl_runs.specs.{TaskTiming.timing_at, SystemOf.system_of, Requirements.{IsKept, IsBroken}, Responses.AlwaysFinishesWithin}
 use Rattle.cl_hop.specs.{Bounds.Lengths, Promises.AreSafe}
 use Rattle.cl_resp.specs.{declared.question.Question.Question, Question.question_of, Response.{Response, HasNoFixpoint}}
 use Rattle.cl_bound.specs.{declared.answer.TaskAnswer.TheVariants.Settled, Answers.answer_at}

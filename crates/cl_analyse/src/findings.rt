@@ -8,7 +8,7 @@ use cl_hop::Bounds;
 use cl_model::{LengthKind, List, RequirementKind};
 
 /// What is found of the bounds of a chain.
-#[derive(Clone, Copy, Debug, PartialEq, Eq)]
+#[derive(Clone, Copy, PartialEq, Eq)]
 pub enum ChainAnswer {
     Bounds(Bounds),
     /// It has no bounds: this task is late, the first such along its steps.
@@ -45,7 +45,7 @@ impl ChainAnswer {
 }
 
 /// What is found of the exact lengths of a chain.
-#[derive(Debug, PartialEq, Eq, Drop)]
+#[derive(PartialEq, Eq, Drop)]
 pub enum ExactAnswer {
     Exact(ExactLengths),
     /// The hyperperiod of the chain exceeds this limit, in ticks, so no exact lengths were
@@ -98,7 +98,7 @@ impl ExactAnswer {
 }
 
 /// The verdict on a requirement. Values are in ticks.
-#[derive(Clone, Copy, Debug, PartialEq, Eq)]
+#[derive(Clone, Copy, PartialEq, Eq)]
 pub enum Verdict {
     /// The value, exact or a bound, is at most what is required.
     Met { value: u64 },
@@ -109,7 +109,7 @@ pub enum Verdict {
 }
 
 /// What is found of a model.
-#[derive(Debug, PartialEq, Eq, Drop)]
+#[derive(PartialEq, Eq, Drop)]
 pub struct Findings {
     /// The answer for each task, in file order.
     pub tasks: List<TaskAnswer>,

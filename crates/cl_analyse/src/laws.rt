@@ -1,7 +1,7 @@
 //! What is found of a valid model is safe, is what defines it, and is unique.
 ghost use Rattle.std.specs.Prelude.{◌≡◌, ℕ, ◌<◌, true, false, length, All};
-ghost use Rattle.cl_model.specs.{declared.model.SystemModel.SystemModel, Groups.groups_at, Validity.IsValid};
-ghost use Rattle.cl_runs.specs.{SystemOf.system_of, Requirements.{requirement_at, IsKept, IsBroken, MeetsDeadlines, IsInTime}};
+ghost use Rattle.cl_model.specs.{declared.model.SystemModel.SystemModel, Groups.groups_at, Validity.IsValid, ByNumber.requirement_at};
+ghost use Rattle.cl_runs.specs.{SystemOf.system_of, Requirements.{IsKept, IsBroken, MeetsDeadlines, IsInTime}};
 ghost use Rattle.cl_hop.specs.Bounds.{Lengths, AreBoundsOf};
 ghost use Rattle.cl_bound.specs.{declared.answer.TaskAnswer.TaskAnswer, Answers.{answers_of, is_late}, Bounds.settled_timings};
 ghost use Rattle.cl_exact.specs.ExactLengths.{Witnesses};

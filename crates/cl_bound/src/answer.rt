@@ -5,7 +5,7 @@ ghost use Rattle.cl_bound.specs.Answers.{is_late, response_in};
 use cl_resp::Settled;
 
 /// The answer to the question of a task.
-#[derive(Clone, Copy, Debug, PartialEq, Eq)]
+#[derive(Clone, Copy, PartialEq, Eq)]
 pub enum TaskAnswer {
     Settled(Settled),
     Late,

@@ -3,7 +3,7 @@ use cl_model::List;
 
 /// A job chain: a job of each group of a chain, and the moments from which and to which it lasts.
 /// Moments are in ticks, and jobs are counted from 0.
-#[derive(Debug, Drop)]
+#[derive(Drop)]
 pub struct JobChain {
     /// The moment from which it lasts: a read of the first group or, where the chain is one of a
     /// delay, the arrival of its first job.
@@ -16,7 +16,7 @@ pub struct JobChain {
 }
 
 /// The measured chains of a chain in a run.
-#[derive(Debug, Drop)]
+#[derive(Drop)]
 pub struct Measured {
     /// The longest complete forward chain and, among equals, the one with the least first job.
     pub reaction: Option<JobChain>,

@@ -14,7 +14,7 @@ use cl_time::NoMemory;
 use std::alloc::Global;
 
 /// Which end of the execution of a runnable is asked for.
-#[derive(Clone, Copy, Debug, PartialEq, Eq)]
+#[derive(Clone, Copy, PartialEq, Eq)]
 pub enum End {
     /// When it starts.
     Start,

@@ -13,7 +13,7 @@ use cl_time::NoMemory;
 use std::alloc::Global;
 
 /// When a runnable of a job starts and finishes, in ticks.
-#[derive(Clone, Copy, Debug, PartialEq, Eq)]
+#[derive(Clone, Copy, PartialEq, Eq)]
 pub struct Moment {
     /// When it starts, or `None` where it doesn't start below the end of the run.
     pub start: Option<u64>,

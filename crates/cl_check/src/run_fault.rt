@@ -17,7 +17,7 @@ pub enum Rule {
 }
 
 /// Why a run isn't accepted.
-#[derive(Clone, Copy, Debug, PartialEq, Eq)]
+#[derive(Clone, Copy, PartialEq, Eq)]
 pub enum RunFault {
     /// The run isn't legal. `rule` is the first broken rule, and `place` is the number of a task,
     /// or of a core for `Schedule`. `tick` is the arrival of the job, the latest tick at which the

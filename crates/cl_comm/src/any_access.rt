@@ -13,7 +13,7 @@ use crate::timed::Timed;
 use cl_model::AccessKind;
 
 /// A way to access labels, of whichever kind.
-#[derive(Clone, Copy, Debug, PartialEq, Eq)]
+#[derive(Clone, Copy, PartialEq, Eq)]
 pub enum AnyAccess {
     Explicit(Explicit),
     Implicit(Implicit),

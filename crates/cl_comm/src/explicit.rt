@@ -10,7 +10,7 @@ use crate::access::Access;
 use crate::spot::{Spot, Window};
 
 /// Explicit access: each runnable reads at its start and writes at its finish.
-#[derive(Clone, Copy, Debug, PartialEq, Eq)]
+#[derive(Clone, Copy, PartialEq, Eq)]
 pub struct Explicit;
 
 impl Access for Explicit {

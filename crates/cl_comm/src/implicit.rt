@@ -10,7 +10,7 @@ use crate::access::Access;
 use crate::spot::{Spot, Window};
 
 /// Implicit access: a job reads at its start and writes at its finish.
-#[derive(Clone, Copy, Debug, PartialEq, Eq)]
+#[derive(Clone, Copy, PartialEq, Eq)]
 pub struct Implicit;
 
 impl Access for Implicit {

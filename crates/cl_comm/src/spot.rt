@@ -7,7 +7,7 @@ ghost use Rattle.cl_comm.specs.Windows.{spot_at};
 use cl_model::{RunnableDef, ValidModel};
 
 /// Where a runnable stands in its task. Times are in ticks.
-#[derive(Clone, Copy, Debug, PartialEq, Eq)]
+#[derive(Clone, Copy, PartialEq, Eq)]
 pub struct Spot {
     /// The sum of the least times of the runnables before it.
     pub before: u64,

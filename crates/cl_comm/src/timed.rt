@@ -10,7 +10,7 @@ use crate::access::Access;
 use crate::spot::{Spot, Window};
 
 /// Timed access: a job reads at its arrival, and writes at its deadline if it has finished by then.
-#[derive(Clone, Copy, Debug, PartialEq, Eq)]
+#[derive(Clone, Copy, PartialEq, Eq)]
 pub struct Timed;
 
 impl Access for Timed {

@@ -2,7 +2,7 @@
 use cl_model::List;
 
 /// The answer on the cuts of a chain. Times are in ticks.
-#[derive(Debug, PartialEq, Eq, Drop)]
+#[derive(PartialEq, Eq, Drop)]
 pub enum CutAnswer {
     /// The best cut: its cost, which bounds the reaction of the chain, and the number of the first
     /// group of each piece, in order and counted from 0.

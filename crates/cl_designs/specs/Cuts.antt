@@ -14,12 +14,12 @@ abbrev pub pieces_words : (pieces : List ℕ) → List ℕ
 pieces_words pieces = flat_map piece_words pieces
 
 -- what a line says of a best cut: its cost and its pieces
-unfoldable pub bound_words : (bound : ℕ) → (pieces : List ℕ) → List ℕ
-bound_words bound pieces = codes " bound " ++ decimal bound ++ codes " pieces" ++ pieces_words pieces
+unfoldable pub cut_bound_words : (bound : ℕ) → (pieces : List ℕ) → List ℕ
+cut_bound_words bound pieces = codes " bound " ++ decimal bound ++ codes " pieces" ++ pieces_words pieces
 
 -- what a line says of a chain: its best cut, or the first of its tasks that is late
 abbrev pub cut_words : SystemModel → CutAnswer → List ℕ
-cut_words model (Cut bound pieces) = bound_words bound pieces
+cut_words model (Cut bound pieces) = cut_bound_words bound pieces
 cut_words model (Late task) = codes " late " ++ (task_at model task).name
 
 -- the line of a chain

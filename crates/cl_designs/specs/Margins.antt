@@ -3,8 +3,8 @@
 use Rattle.std.specs.Prelude.{◌≡◌, ℕ, ◌<◌, true, List, [], ◌++◌, length, codes, decimal, Option, Some, None, if◌then◌else◌}
 use Rattle.std.specs.List.{flat_map, range_with_len}
 use Rattle.cl_text.specs.Line.{line}
-use Rattle.cl_model.specs.{declared.model.SystemModel.SystemModel, ByNumber.{task_at, time_of}}
-use Rattle.cl_runs.specs.Requirements.{requirement_at, IsInTime}
+use Rattle.cl_model.specs.{declared.model.SystemModel.SystemModel, ByNumber.{task_at, time_of, requirement_at}}
+use Rattle.cl_runs.specs.Requirements.{IsInTime}
 use Rattle.cl_tight.specs.{declared.findings.TightFindings.TightFindings, TightFindings.{tight_findings_of, is_verified}}
 use Rattle.cl_margin.specs.{declared.{answer.{Breaks.{Breaks, TheVariants.{Task, Requirement, Limit}}, Margin.Margin, Margins.Margins}, whose.Whose.{Whose, TheVariants.{EveryTask, OneTask}}}, Grown.{grown, grown_time}, Margins.{is_met_task, is_met_requirement, margin_at, AreMargins}}
 
@@ -64,20 +64,20 @@ unfoldable pub all_line : SystemModel → Margin → List ℕ
 all_line model margin = line (codes "all percent " ++ decimal margin.percent ++ breaks_words model margin.breaks)
 
 -- the line of a task: its percentage, and from how many ticks its greatest time grows to how many
-unfoldable pub line_of : SystemModel → Margin → (task : ℕ) → List ℕ
-line_of model margin task =
+unfoldable pub margin_line : SystemModel → Margin → (task : ℕ) → List ℕ
+margin_line model margin task =
     line (codes "task " ++ name_of_task model task ++ codes " percent " ++ decimal margin.percent
     ++ codes " time " ++ decimal (time_of model task) ++ codes " to " ++ decimal (grown_time model task margin.percent)
     ++ breaks_words model margin.breaks)
 
-abbrev pub task_line : SystemModel → List Margin → (task : ℕ) → List ℕ
-task_line model margins task = line_of model (margin_at margins task) task
+abbrev pub task_margin_line : SystemModel → List Margin → (task : ℕ) → List ℕ
+task_margin_line model margins task = margin_line model (margin_at margins task) task
 
 -- the text of these margins
 unfoldable pub margin_text : SystemModel → TightFindings → Margins → List ℕ
 margin_text model findings margins =
     line (codes "chainlat margin 1") ++ late_lines model findings ++ unmet_lines model findings ++ all_line model margins.all
-    ++ flat_map (task_line model margins.tasks) (range_with_len 0 (length model.tasks))
+    ++ flat_map (task_margin_line model margins.tasks) (range_with_len 0 (length model.tasks))
 
 -- the text is that of the model's margins
 pub record IsMarginTextOf (model : SystemModel) (text : List ℕ) : Type 0 where

@@ -4,7 +4,7 @@ use Rattle.std.specs.List.{flat_map, range_with_len}
 use Rattle.cl_text.specs.Line.{line}
 use Rattle.cl_model.specs.{declared.model.SystemModel.SystemModel, ByNumber.task_at, Named.core_names}
 use Rattle.cl_runs.specs.Requirements.{MeetsDeadlines}
-use Rattle.cl_tune.specs.{declared.answer.OrderAnswer.{OrderAnswer, TheVariants.{Order, NoOrder}}, BestOrders.IsOrderAnswer, Priorities.with_priorities}
+use Rattle.cl_tune.specs.{declared.answer.OrderAnswer.{OrderAnswer, TheVariants.{Order, NoOrder}}, BestOrders.IsOrderAnswer, Priorities.with_all_priorities}
 
 -- the line of a task
 unfoldable pub priority_line : SystemModel → (priorities : List ℕ) → (task : ℕ) → List ℕ
@@ -38,7 +38,7 @@ pub record IsOrderTextOf (model : SystemModel) (text : List ℕ) : Type 0 where
 
 -- the deadlines of a model with these priorities are met in every legal run, of any length; of no order nothing is said
 abbrev pub OrderIsSafe : SystemModel → OrderAnswer → Type 0
-OrderIsSafe model (Order priorities) = MeetsDeadlines (with_priorities model (slice_index priorities))
+OrderIsSafe model (Order priorities) = MeetsDeadlines (with_all_priorities model (slice_index priorities))
 OrderIsSafe model (NoOrder core) = Unit {0}
 
 -- The text has the best priorities of the model, with which all deadlines are met in every legal run, or a core that has

@@ -2,7 +2,7 @@
 ghost use Rattle.std.specs.Prelude.{◌≡◌, ℕ, ◌<◌, ◌++◌, length, OnOk, IfOk};
 ghost use Rattle.std.specs.List.{flat_map, range_with_len};
 ghost use Rattle.cl_cut.specs.{declared.answer.CutAnswer.TheVariants.Late, CutAnswers.AreCutAnswers};
-ghost use Rattle.cl_designs.specs.Cuts.{piece_words, pieces_words, bound_words, cut_words, cut_line, cut_text, IsCutTextOf};
+ghost use Rattle.cl_designs.specs.Cuts.{piece_words, pieces_words, cut_bound_words, cut_words, cut_line, cut_text, IsCutTextOf};
 
 use cl_analyse::analyse;
 use cl_cut::{CutAnswer, best_cuts};
@@ -86,7 +86,7 @@ fn put_cut(text: &mut Text, model: &ValidModel, answer: &CutAnswer) -> Result<()
 
 /// Puts the cost of a cut and its pieces.
 fn put_bound(text: &mut Text, bound: u64, pieces: &[u32]) -> Result<(), NoMemory>
-    ensures { OnOk result (text.new ≡ text.old ++ bound_words bound pieces.now) }
+    ensures { OnOk result (text.new ≡ text.old ++ cut_bound_words bound pieces.now) }
 {
     text.put(b" bound ")?;
     text.put_number(bound)?;

@@ -5,7 +5,7 @@ ghost use Rattle.cl_analyse.specs.Verdicts.{is_met};
 ghost use Rattle.cl_tight.specs.TightFindings.{tight_findings_of};
 ghost use Rattle.cl_scale.specs.declared.percent.TheConstants.{MOST_PERCENT};
 ghost use Rattle.cl_margin.specs.{declared.{answer.Breaks.TheVariants.{Task, Requirement}, whose.Whose.TheVariants.OneTask}, Margins.{is_met_task, is_met_requirement, margin_at, IsMargin, AreMargins}};
-ghost use Rattle.cl_designs.specs.Margins.{requirement_name, late_task, late_line, late_lines, unmet_requirement, unmet_line, unmet_lines, broken_words, breaks_words, IsBreakOf, all_line, line_of, task_line, margin_text, IsMarginTextOf};
+ghost use Rattle.cl_designs.specs.Margins.{requirement_name, late_task, late_line, late_lines, unmet_requirement, unmet_line, unmet_lines, broken_words, breaks_words, IsBreakOf, all_line, margin_line, task_margin_line, margin_text, IsMarginTextOf};
 
 use cl_analyse::Verdict;
 use cl_margin::{Breaks, Margin, Margins, grown_time, margins};
@@ -190,7 +190,7 @@ fn put_tasks(text: &mut Text, model: &ValidModel, margins: &List<Margin>) -> Res
     requires one_a_task { length margins.now ≡ length model.now.tasks }
     requires margins { (task : ℕ) → task < length model.now.tasks
         → IsMargin model.now (OneTask task) (margin_at margins.now task) }
-    ensures { OnOk result (text.new ≡ text.old ++ flat_map (task_line model.now margins.now) (range_with_len 0 (length model.now.tasks))) }
+    ensures { OnOk result (text.new ≡ text.old ++ flat_map (task_margin_line model.now margins.now) (range_with_len 0 (length model.now.tasks))) }
 {
     for task in 0..model.tasks() {
         put_task(text, model, task, &margins.as_slice()[task as usize])?;
@@ -203,7 +203,7 @@ fn put_task(text: &mut Text, model: &ValidModel, task: u32, margin: &Margin) -> 
     requires task { task < length model.now.tasks }
     requires percent { margin.now.percent ≤ MOST_PERCENT }
     requires breaks { IfSome margin.now.breaks (IsBreakOf model.now) }
-    ensures { OnOk result (text.new ≡ text.old ++ line_of model.now margin.now task) }
+    ensures { OnOk result (text.new ≡ text.old ++ margin_line model.now margin.now task) }
 {
     text.put(b"task ")?;
     put_task_name(text, model, task)?;

@@ -10,8 +10,9 @@ use Rattle.cl_runs.specs.{Chains.{JobChain, IsForwardChain, first_group, first_j
 use Rattle.cl_runs.proofs.{ModelSystem.system_sound, MomentFacts.{reads_below, writes_within}}
 use Rattle.cl_picture.specs.Window.{IsPictureWindow, x_of}
 use Rattle.cl_picture.proofs.{BarSides.choose, Lengths.x_most, TextLengths.{IsWithin, AreWithin, HasDigits, IsShortName, digits, none, wider, fixed, number, name, both, each_of, no_lines, wider_lines, a_line, both_lines, lines_of}, FrameLengths.x_digits}
-use Rattle.cl_draw.specs.{declared.{chain_lines.Look.Look, stops.{Reaction.Reaction, Stop.Stop}}, ChainLines.{middle_of, line_at, half_of, leave, first_stop, last_stop, stop_pieces, reaction_title_line, falls_line, step_pieces_at, steps_line, frame_line, input_line, output_line}}
-use Rattle.cl_draw.specs.{ChainLines.{length_line, words_left, words_right, words_place, words_line, inside_lines, open_lines, none_line, outside_line, is_whole_inside, reaction_lines, shown_lines, chain_lines}, Reactions.{no_stop, stop_at_group, IsShown, IsShownOf, IsDrawnReaction}}
+use Rattle.cl_draw.specs.{declared.{chain_lines.Look.Look, stops.{Reaction.Reaction, Stop.Stop}}, ChainLines.{middle_of, stop_line, half_of, leave, first_stop, last_stop, stop_pieces, reaction_title_line, falls_line, step_pieces_at, steps_line, frame_line, input_line, output_line}}
+use Rattle.cl_draw.specs.{ChainLines.{drawn_length_line, words_left, words_right, words_place, drawn_words_line, inside_lines, open_lines, drawn_none_line, outside_line, is_whole_inside, reaction_lines, shown_lines, drawn_chain_lines}, Reactions.{no_drawn_stop, stop_at_group, IsShown}}
+use Rattle.cl_draw.specs.Reactions.{IsShownOf, IsDrawnReaction}
 use Rattle.cl_draw.proofs.SmallNumbers.{IsHeight, height_digits, row_height_is, task_short, job_below}
 
 -- ---- the numbers of a reaction
@@ -103,7 +104,7 @@ module _ (model : SystemModel) (valid : IsValid model) (named : AreNamed model) 
   middle_most : (stop : Stop) → IsSmallStop model stop → middle_of model stop.task ≤ 9000180
   middle_most stop is = omega (arith, (row_height_is model valid stop.task is.known).most)
 
-  line_most : (stop : Stop) → IsSmallStop model stop → line_at model look.colour stop ≤ 9000260
+  line_most : (stop : Stop) → IsSmallStop model stop → stop_line model look.colour stop ≤ 9000260
   line_most stop is =
       let middle : ℕ = middle_of model stop.task in
       let most = middle_most stop is in
@@ -113,25 +114,25 @@ module _ (model : SystemModel) (valid : IsValid model) (named : AreNamed model) 
       (λ also. choose (λ h. h ≤ 9000260) (look.colour == 2) (middle - 40) (middle + 80) (λ yes. omega (arith, most)) (λ other. omega (arith, most))))
 
   leave_most : (stop next : Stop) → IsSmallStop model stop → IsSmallStop model next
-      → leave look.colour (middle_of model stop.task) (middle_of model next.task) (line_at model look.colour next) ≤ 9900000
+      → leave look.colour (middle_of model stop.task) (middle_of model next.task) (stop_line model look.colour next) ≤ 9900000
   leave_most stop next is also =
       let middle : ℕ = middle_of model stop.task in
       let other : ℕ = middle_of model next.task in
       let most = middle_most stop is in
-      choose (λ h. h ≤ 9900000) (nat_lt middle other) (middle + half_of look.colour) (if nat_lt other middle then middle - half_of look.colour else line_at model look.colour next)
+      choose (λ h. h ≤ 9900000) (nat_lt middle other) (middle + half_of look.colour) (if nat_lt other middle then middle - half_of look.colour else stop_line model look.colour next)
       (λ below. omega (arith, most, colour))
-      (λ no. choose (λ h. h ≤ 9900000) (nat_lt other middle) (middle - half_of look.colour) (line_at model look.colour next) (λ above. omega (arith, most))
+      (λ no. choose (λ h. h ≤ 9900000) (nat_lt other middle) (middle - half_of look.colour) (stop_line model look.colour next) (λ above. omega (arith, most))
       (λ same. omega (arith, line_most next also)))
 
-  line_digits : (stop : Stop) → IsSmallStop model stop → HasDigits (line_at model look.colour stop) 7
-  line_digits stop is = seven_digits (line_at model look.colour stop) (omega (arith, line_most stop is))
+  line_digits : (stop : Stop) → IsSmallStop model stop → HasDigits (stop_line model look.colour stop) 7
+  line_digits stop is = seven_digits (stop_line model look.colour stop) (omega (arith, line_most stop is))
 
   group_within : (word : List ℕ) → IsShortName word → AreWithin (open_lines word look) 140
   group_within word short = wider_lines 140
       (a_line (fixed _ (name short (fixed _ (number (digits 1 look.colour (omega arith) (omega (arith, colour)) (omega (arith, colour))) (fixed _ none)))))
       (a_line (fixed _ (number (y_digits 185 (omega arith)) (fixed _ none))) no_lines)) (omega arith)
 
-  none_within : AreWithin (none_line look ∷ []) 140
+  none_within : AreWithin (drawn_none_line look ∷ []) 140
   none_within = wider_lines 140 (a_line (fixed _ (number (y_digits 230 (omega arith)) (fixed _ none))) no_lines) (omega arith)
 
   module _ (groups : ℕ) (reaction : Reaction) (small : IsSmallReaction model groups reaction) where
@@ -160,7 +161,7 @@ module _ (model : SystemModel) (valid : IsValid model) (named : AreNamed model) 
 
     -- each stop of the list
     each_stop : (P : Stop → Type 0) → ((stop : Stop) → IsSmallStop model stop → P stop) → All P reaction.stops
-    each_stop P has = All-from_get_or P reaction.stops no_stop (λ i within. has (stop_at_group reaction.stops i) (small.stops i within))
+    each_stop P has = All-from_get_or P reaction.stops no_drawn_stop (λ i within. has (stop_at_group reaction.stops i) (small.stops i within))
 
     title_within : (word : List ℕ) → IsShortName word → IsWithin (reaction_title_line model word reaction) (145 + 76 * groups)
     title_within word short =
@@ -212,7 +213,7 @@ module _ (model : SystemModel) (valid : IsValid model) (named : AreNamed model) 
         let right : x_of look.window reaction.to - 60 < 10 ^ 5 = omega (arith, x_most look.window reaction.to window) in
         wider 35 (fixed _ (number (digits 5 _ (omega arith) right (omega (arith, right))) (fixed _ none))) (omega arith))
 
-    said_within : IsWithin (words_line model look reaction) 295
+    said_within : IsWithin (drawn_words_line model look reaction) 295
     said_within = wider 295
         (both place_within
         (number (y_digits 210 (omega arith)) (fixed _ (number lasted (fixed _ (name (task_short model named (first_stop reaction).task)
@@ -220,7 +221,7 @@ module _ (model : SystemModel) (valid : IsValid model) (named : AreNamed model) 
         (fixed _ (name (task_short model named (last_stop reaction).task) (fixed _ (number (ten_digits (last_stop reaction).job last_is.job) (fixed _ none)))))))))))))
         (omega arith)
 
-    end_lines : AreWithin (input_line model look reaction ∷ output_line model look reaction ∷ length_line look reaction ∷ words_line model look reaction ∷ []) 470
+    end_lines : AreWithin (input_line model look reaction ∷ output_line model look reaction ∷ drawn_length_line look reaction ∷ drawn_words_line model look reaction ∷ []) 470
     end_lines = wider_lines 470
         (a_line (fixed _ (number (x_at reaction.from) (fixed _ (number (line_digits (first_stop reaction) first_is) (fixed _ none)))))
         (a_line (fixed _ (number (x_at reaction.to) (fixed _ (number (line_digits (last_stop reaction) last_is) (fixed _ none)))))
@@ -246,7 +247,7 @@ module _ (model : SystemModel) (valid : IsValid model) (named : AreNamed model) 
   shown_within groups word short (Some reaction) small = reaction_within groups reaction small word short
 
   pub chain_within : (groups : ℕ) (word : List ℕ) → IsShortName word → (reaction : Option Reaction) → IsSmallShown model groups reaction
-      → AreWithin (chain_lines model look word reaction) (1000 + 200 * groups)
-  unfolding chain_lines
+      → AreWithin (drawn_chain_lines model look word reaction) (1000 + 200 * groups)
+  unfolding drawn_chain_lines
   chain_within groups word short reaction small = wider_lines (1000 + 200 * groups)
       (both_lines (both_lines (group_within word short) (shown_within groups word short reaction small)) (a_line (fixed _ none) no_lines)) (omega arith)

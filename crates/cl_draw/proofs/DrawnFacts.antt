@@ -8,8 +8,8 @@ use Rattle.cl_model.specs.{declared.{model.SystemModel.SystemModel, task.TaskDef
 use Rattle.cl_model.proofs.GroupFacts.{groups_at_are}
 use Rattle.cl_runs.specs.{Run.{Run, jobs_of}, Legal.IsLegal, SystemOf.system_of, RunChains.run_moments, Chains.{JobChain, IsForwardChain, first_job}, Measured.IsMeasuredBy}
 use Rattle.cl_picture.specs.{declared.{window.Window.Window, item.{Item.Item, Bar.Bar}}, Bars.{counts, bar_of, joined_bar, bars_from, bars}, Window.{high_of, IsPictureWindow}}
-use Rattle.cl_draw.specs.{declared.{parts.Part.Part, rows.Row.Row, stops.{Stop.Stop, Reaction.Reaction}, drawing.Drawing.Drawing}, Items.{part_item, band, bands}, Rows.{IsRowOf, no_row, row_at}, Reactions.{no_stop, IsShownOf, IsDrawnReaction, reaction_at}, Picture.AreTaskRows}
-use Rattle.cl_draw.specs.{Picture.AreReactions, Inner.{TaskRuns.{IsTaskRun, IsPartOf}, DrawnBars.{IsSayable, IsDrawableBar}, Heights.ArePlaces, Drawings.{IsDrawableRow, IsDrawing}}}
+use Rattle.cl_draw.specs.{declared.{parts.Part.Part, rows.Row.Row, stops.{Stop.Stop, Reaction.Reaction}, drawing.Drawing.Drawing}, Items.{part_item, band, bands}, Rows.{IsRowOf, no_row, row_at}, Reactions.{no_drawn_stop, IsShownOf, IsDrawnReaction, reaction_at}, Picture.AreTaskRows}
+use Rattle.cl_draw.specs.{Picture.AreReactions, Inner.{TaskRuns.{IsTaskRun, IsPartOf}, DrawnBars.{IsItemOfTask, IsDrawableBar}, Heights.ArePlaces, Drawings.{IsDrawableRow, IsDrawing}}}
 use Rattle.cl_draw.specs.Inner.Looks as looks
 use Rattle.cl_draw.proofs.PartFacts.{parts_known}
 
@@ -24,32 +24,32 @@ either : {X : Type 0} (P : X → Type 0) (b : Bool) (xs ys : List X) → All P x
 either P true xs ys one other = one
 either P false xs ys one other = other
 
-drawable_from : (window : Window) (task : TaskDef) (before : Option Bar) (items : List Item) → IsDrawableFirst task before → All (IsSayable task) items
+drawable_from : (window : Window) (task : TaskDef) (before : Option Bar) (items : List Item) → IsDrawableFirst task before → All (IsItemOfTask task) items
     → All (IsDrawableBar task) (bars_from window before items)
 drawable_from window task None [] first each = All-nil (IsDrawableBar task)
 drawable_from window task (Some bar) [] first each = All-cons (IsDrawableBar task) bar [] first (All-nil (IsDrawableBar task))
 drawable_from window task None (item ∷ items) first each =
-    drawable_from window task (Some (bar_of window 0 item)) items (All-head (IsSayable task) item items each) (All-tail (IsSayable task) item items each)
+    drawable_from window task (Some (bar_of window 0 item)) items (All-head (IsItemOfTask task) item items each) (All-tail (IsItemOfTask task) item items each)
 drawable_from window task (Some bar) (item ∷ items) first each = either (IsDrawableBar task) (high_of window item.to == bar.right)
     (bars_from window (Some (joined_bar bar item)) items) (bar ∷ bars_from window (Some (bar_of window bar.right item)) items)
-    (drawable_from window task (Some (joined_bar bar item)) items first (All-tail (IsSayable task) item items each))
+    (drawable_from window task (Some (joined_bar bar item)) items first (All-tail (IsItemOfTask task) item items each))
     (All-cons (IsDrawableBar task) bar (bars_from window (Some (bar_of window bar.right item)) items) first
-    (drawable_from window task (Some (bar_of window bar.right item)) items (All-head (IsSayable task) item items each) (All-tail (IsSayable task) item items each)))
+    (drawable_from window task (Some (bar_of window bar.right item)) items (All-head (IsItemOfTask task) item items each) (All-tail (IsItemOfTask task) item items each)))
 
 -- bars of items that name runnables of the task do so
-bars_drawable : (window : Window) (task : TaskDef) (items : List Item) → All (IsSayable task) items → All (IsDrawableBar task) (bars window items)
-bars_drawable window task items each = drawable_from window task None (filter (counts window) items) tt (All-filter (counts window) (IsSayable task) items each)
+bars_drawable : (window : Window) (task : TaskDef) (items : List Item) → All (IsItemOfTask task) items → All (IsDrawableBar task) (bars window items)
+bars_drawable window task items each = drawable_from window task None (filter (counts window) items) tt (All-filter (counts window) (IsItemOfTask task) items each)
 
 -- ---- rows
 
 module _ (model : SystemModel) (run : Run) (window : Window) (task : ℕ) (of : IsTaskRun model run task) where
   parts_sayable : (parts : List Part) → All (IsPartOf model run task) parts
-      → All (IsSayable (task_at model task)) (map (part_item (jobs_of run task) (deadline_of model task) (task_at model task).runnables) parts)
-  parts_sayable parts known = All-map (IsSayable (task_at model task)) (part_item (jobs_of run task) (deadline_of model task) (task_at model task).runnables) parts
+      → All (IsItemOfTask (task_at model task)) (map (part_item (jobs_of run task) (deadline_of model task) (task_at model task).runnables) parts)
+  parts_sayable parts known = All-map (IsItemOfTask (task_at model task)) (part_item (jobs_of run task) (deadline_of model task) (task_at model task).runnables) parts
       (λ k d within. (known k d within).is_runnable)
 
-  bands_sayable : (finishes : List ℕ) → All (IsSayable (task_at model task)) (bands (jobs_of run task) (deadline_of model task) finishes run.table.ticks)
-  bands_sayable finishes = All-map (IsSayable (task_at model task)) (band (jobs_of run task) (deadline_of model task) finishes run.table.ticks)
+  bands_sayable : (finishes : List ℕ) → All (IsItemOfTask (task_at model task)) (bands (jobs_of run task) (deadline_of model task) finishes run.table.ticks)
+  bands_sayable finishes = All-map (IsItemOfTask (task_at model task)) (band (jobs_of run task) (deadline_of model task) finishes run.table.ticks)
       (range_with_len 0 (length (jobs_of run task))) (λ k d within. tt)
 
   pub row_drawable : (row : Row) → IsRowOf model run window task row → IsDrawableRow model task row
@@ -80,7 +80,7 @@ module _ (model : SystemModel) (valid : IsValid model) (run : Run) (chain : ℕ)
   shown_drawable (Some longest) None is shown = tt
   shown_drawable (Some longest) (Some reaction) is shown = record {
     some = omega (arith, is.is_chain.some_group, shown.one_a_group);
-    known = All-from_get_or (λ (stop : Stop). stop.task < length model.tasks) reaction.stops no_stop
+    known = All-from_get_or (λ (stop : Stop). stop.task < length model.tasks) reaction.stops no_drawn_stop
         (λ i within.
         let in_groups : i < length (groups_at model chain) = omega (arith, within, shown.one_a_group) in
         omega (arith, (shown.stops i in_groups).task, (known_group i in_groups).known));

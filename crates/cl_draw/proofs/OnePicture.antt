@@ -8,8 +8,8 @@ use Rattle.cl_model.specs.{declared.model.SystemModel.SystemModel, ByNumber.{cha
 use Rattle.cl_model.proofs.CoreTasks.{below_known}
 use Rattle.cl_runs.specs.{Legal.IsLegal, Run.Run, SystemOf.system_of}
 use Rattle.cl_picture.specs.{declared.window.Window.Window, Pieces.{Element, print}, Axis.axis, Frame.{begin, end}}
-use Rattle.cl_draw.specs.{declared.{rows.Row.Row, stops.Reaction.Reaction}, Places.{row_top, bottom}, Rows.row_at, RowLines.row_lines, Reactions.reaction_at, ChainLines.chain_lines, Picture.{heads, names, by_core, by_cores, task_elements, look_of, chain_elements, picture, window_between}}
-use Rattle.cl_draw.specs.Picture.{IsPictureOf}
+use Rattle.cl_draw.specs.{declared.{rows.Row.Row, stops.Reaction.Reaction}, Places.{row_top, bottom}, Rows.row_at, RowLines.row_lines, Reactions.reaction_at, ChainLines.drawn_chain_lines, Picture.{heads, row_names, by_core, by_cores, task_elements, look_of, chain_elements, picture}}
+use Rattle.cl_draw.specs.Picture.{window_between, IsPictureOf}
 use Rattle.cl_draw.proofs.OneRow.{one_row, one_reaction}
 
 -- what comes of items depends on what comes of each alone
@@ -44,7 +44,7 @@ module _ (model : SystemModel) (run : Run) (window : Window) where
     same_chains : all_chains one ≡ all_chains other
     same_chains = same_flat (chain_elements model window one) (chain_elements model window other) (range_with_len 0 (length model.chains))
         (all_below (λ chain. chain_elements model window one chain ≡ chain_elements model window other chain) (length model.chains)
-        (λ chain known. ap (λ (r : Option Reaction). chain_lines model (look_of model window chain) (chain_at model chain).name r) (same chain known)))
+        (λ chain known. ap (λ (r : Option Reaction). drawn_chain_lines model (look_of model window chain) (chain_at model chain).name r) (same chain known)))
 
   same_picture : (rows also : List Row) (reactions too : List (Option Reaction))
       → ((task : ℕ) → task < length model.tasks → row_at rows task ≡ row_at also task)
@@ -52,7 +52,7 @@ module _ (model : SystemModel) (run : Run) (window : Window) where
       → picture model run window rows reactions ≡ picture model run window also too
   unfolding picture
   same_picture rows also reactions too row chain =
-      let before = begin window run.table.ticks (bottom model + 460) ++ heads model ++ names model ++ axis window (bottom model) in
+      let before = begin window run.table.ticks (bottom model + 460) ++ heads model ++ row_names model ++ axis window (bottom model) in
       let last = end (bottom model) in
       ap (λ (es : List Element). before ++ es ++ flat_map (chain_elements model window reactions) (range_with_len 0 (length model.chains)) ++ last) (same_rows rows also row)
       ∙ ap (λ (es : List Element). before ++ by_cores model (task_elements model run window also) ++ es ++ last) (same_chains reactions too chain)

@@ -7,7 +7,7 @@ use Rattle.cl_runs.specs.{TaskTiming.timing_at, SystemOf.system_of, Run.{Run, jo
 use Rattle.cl_runs.proofs.{StartsFinishes.finishes_once, OrderedMoments.run_unique, MeasuredOnce.measured_once}
 use Rattle.cl_check.specs.JobMoments.{IsMomentOf}
 use Rattle.cl_picture.specs.{declared.window.Window.Window, Bars.bars}
-use Rattle.cl_draw.specs.{declared.{parts.Part.Part, rows.Row.Row, stops.{Stop.Stop, Reaction.Reaction}}, Parts.AreFinishes, Items.{part_item, bands}, Rows.IsRowOf, Reactions.{no_stop, stop_at_group, IsStop, IsShown, IsShownOf, IsDrawnReaction}, Inner.TaskRuns.IsTaskRun}
+use Rattle.cl_draw.specs.{declared.{parts.Part.Part, rows.Row.Row, stops.{Stop.Stop, Reaction.Reaction}}, Parts.AreFinishes, Items.{part_item, bands}, Rows.IsRowOf, Reactions.{no_drawn_stop, stop_at_group, IsStop, IsShown, IsShownOf, IsDrawnReaction}, Inner.TaskRuns.IsTaskRun}
 use Rattle.cl_draw.proofs.OneParts.{one_parts}
 
 -- ---- finishes
@@ -66,7 +66,7 @@ module _ (moments : Moments) (groups : List Group) (unique : AreUnique moments g
 
   one_shown : (chain : JobChain) (a b : Reaction) → IsShown moments groups chain a → IsShown moments groups chain b → a ≡ b
   one_shown chain a b one other = reaction_same a b (one.from ∙ sym other.from) (one.to ∙ sym other.to)
-      (ext_get_or no_stop a.stops b.stops (one.one_a_group ∙ sym other.one_a_group)
+      (ext_get_or no_drawn_stop a.stops b.stops (one.one_a_group ∙ sym other.one_a_group)
       (λ i within. let in_groups : i < length groups = omega (arith, within, one.one_a_group) in
       one_stop i in_groups (slice_index chain.jobs i) (stop_at_group a.stops i) (stop_at_group b.stops i) (one.stops i in_groups) (other.stops i in_groups)))
 

@@ -5,12 +5,12 @@ use Rattle.cl_model.specs.declared.model.SystemModel.{SystemModel}
 use Rattle.cl_runs.specs.Run.{Run}
 use Rattle.cl_picture.specs.{declared.window.Window.Window, Pieces.print, Axis.axis, Frame.{begin, end}}
 use Rattle.cl_picture.proofs.Printing.{more_elements}
-use Rattle.cl_draw.specs.{declared.{rows.Row.Row, stops.Reaction.Reaction, drawing.Drawing.Drawing}, Places.bottom, Picture.{heads, names, by_cores, task_elements, chain_elements, picture, AreTaskRows, window_between, IsPictureOf}, Inner.Drawings.IsDrawing}
+use Rattle.cl_draw.specs.{declared.{rows.Row.Row, stops.Reaction.Reaction, drawing.Drawing.Drawing}, Places.bottom, Picture.{heads, row_names, by_cores, task_elements, chain_elements, picture, AreTaskRows, window_between, IsPictureOf}, Inner.Drawings.IsDrawing}
 use Rattle.std.specs.Prelude.{Option}
 
 module _ (model : SystemModel) (run : Run) (window : Window) (rows : List Row) (reactions : List (Option Reaction)) (height ticks : ℕ) (is_height : height ≡ bottom model)
     (is_ticks : ticks ≡ run.table.ticks) (t0 t1 t2 t3 t4 t5 t6 t7 : List ℕ) where
-  pub all_put : t1 ≡ t0 ++ print (begin window ticks (height + 460)) → t2 ≡ t1 ++ print (heads model) → t3 ≡ t2 ++ print (names model)
+  pub all_put : t1 ≡ t0 ++ print (begin window ticks (height + 460)) → t2 ≡ t1 ++ print (heads model) → t3 ≡ t2 ++ print (row_names model)
       → t4 ≡ t3 ++ print (axis window height) → t5 ≡ t4 ++ print (by_cores model (task_elements model run window rows))
       → t6 ≡ t5 ++ print (flat_map (chain_elements model window reactions) (range_with_len 0 (length model.chains))) → t7 ≡ t6 ++ print (end height)
       → t7 ≡ t0 ++ print (picture model run window rows reactions)

@@ -9,7 +9,7 @@ use Rattle.cl_model.proofs.CoreTasks.{below_known}
 use Rattle.cl_runs.specs.{Legal.IsLegal, Run.{Run, jobs_of}, SystemOf.system_of}
 use Rattle.cl_picture.specs.{declared.{item.Bar.Bar, window.Window.Window}, Pieces.Element, Shown.LieSideBySide, Window.IsPictureWindow}
 use Rattle.cl_picture.proofs.{TextLengths.{IsWithin, AreWithin, IsShortName, digits, none, wider, fixed, number, name, no_lines, wider_lines, a_line, both_lines, lines_of, all_lines_of}, FrameLengths.{begin_within, end_within, axis_within}}
-use Rattle.cl_draw.specs.{declared.{drawing.Drawing.Drawing, rows.Row.Row}, Lengths.{bars_of_task, bar_count, groups_of_chain, group_count, most_length}, Marks.marks_of, Picture.{core_head, chains_head, heads, name_lines, task_name, chain_name, by_core, by_cores, names, task_elements}}
+use Rattle.cl_draw.specs.{declared.{drawing.Drawing.Drawing, rows.Row.Row}, Lengths.{bars_of_task, bar_count, groups_of_chain, group_count, most_length}, Marks.marks_of, Picture.{core_head, chains_head, heads, name_lines, task_name, chain_name, by_core, by_cores, row_names, task_elements}}
 use Rattle.cl_draw.specs.{Picture.{look_of, chain_elements, picture, window_between, AreTaskRows, IsPictureOf}, Places.{row_top, chain_top, bottom}, Reactions.reaction_at, RowLines.{bar_line, row_lines}, Rows.{IsRowOf, row_at}, Inner.{Drawings.IsDrawing, TaskRuns.IsTaskRun}}
 use Rattle.cl_draw.proofs.{BarLengths.{few_bars, IsSmallBar, small_bars_of_bands, small_bars_of_parts, bar_within}, ChainLengths.{small_reaction, chain_within}, MarkLengths.{few_marks, marks_within}, RowSides.{bands_beside, parts_beside}, SmallNumbers.{IsHeight, height_digits, own_digits}}
 use Rattle.cl_draw.proofs.{SmallNumbers.{core_short, task_short, chain_short, core_height_is, row_height_is, chain_height_is, bottom_is}, TaskSums.{sum_times, keyed_sum}}
@@ -20,7 +20,7 @@ of_each P n each = λ k d within. each (get_or (range_with_len 0 n) k d)
     (let below : k < n = omega (arith, within, length-range_with_len 0 n) in omega (arith, below, get_or-range_with_len 0 n k d below))
 
 module _ (model : SystemModel) (valid : IsValid model) (named : AreNamed model) where
-  -- ---- heads and names
+  -- ---- heads and row_names
 
   core_head_within : (core : ℕ) → core < length model.cores → IsWithin (core_head model core) 108
   core_head_within core known = wider 108
@@ -64,8 +64,8 @@ module _ (model : SystemModel) (valid : IsValid model) (named : AreNamed model) 
     ap (λ m. m * a) (length-range_with_len 0 n),
   )
 
-  names_within : AreWithin (names model) (180 * length model.tasks + 180 * length model.chains)
-  unfolding names
+  names_within : AreWithin (row_names model) (180 * length model.tasks + 180 * length model.chains)
+  unfolding row_names
   names_within = wider_lines (180 * length model.tasks + 180 * length model.chains)
       (both_lines (by_cores_within (task_name model) (λ task. 180)
       (λ task known. name_within (row_top model task) (task_at model task).name (row_height_is model valid task known) (task_short model named task)))

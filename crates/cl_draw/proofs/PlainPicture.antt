@@ -1,4 +1,4 @@
--- The values of a picture are plain: names are of the grammar of names, and all else is numbers.
+-- The values of a picture are plain: row_names are of the grammar of row_names, and all else is numbers.
 use Rattle.std.proofs.Common.{◌≡◌, ℕ, zero, suc, ◌-◌, Bool, true, false, Option, Some, None, List, [], ◌∷◌, ◌++◌, length, get_or, map, arith}
 use Rattle.std.specs.Prelude.{◌+◌, ◌&&◌, codes, nat_lt, nat_le, slice_index_or}
 use Rattle.std.specs.List.{flat_map, list_all, range_with_len}
@@ -13,11 +13,11 @@ use Rattle.cl_picture.specs.declared.item.Rest.TheVariants as rest
 use Rattle.cl_picture.proofs.{BarSides.choose, PlainPieces.{NamesPlain, LinesPlain, names-append, names-flat_map, lines-append, lines-map, lines-flat_map, lines_plain, begin_plain, end_plain, axis_plain}}
 use Rattle.cl_draw.specs.{declared.{chain_lines.Look.Look, marks.Marks.Marks, rows.Row.Row, stops.{Reaction.Reaction, Stop.Stop}}, Places.{row_top, bottom}, Marks.marks_of, MarkLines.{wait_pieces, arrival_pieces, due_pieces, has_room, arrival_at, arrival_label_line, label_at, mark_lines}}
 use Rattle.cl_draw.specs.{RowLines.{finish_piece, rest_pieces, words_pieces, bar_head, bar_line, row_lines}, Rows.row_at, Reactions.reaction_at, ChainLines.{stop_pieces, title_head, reaction_title_line, steps_head, step_pieces_at, steps_line, frame_line, words_left, words_right}}
-use Rattle.cl_draw.specs.{ChainLines.{words_place, words_rest, words_line, input_line, output_line, length_line, inside_lines, first_stop, last_stop, is_whole_inside, outside_line, shown_lines, open_lines, chain_lines}, Picture.{core_head, chains_head, heads, task_name, chain_name}}
-use Rattle.cl_draw.specs.Picture.{by_core, by_cores, names, task_elements, look_of, chain_elements, picture}
+use Rattle.cl_draw.specs.{ChainLines.{words_place, words_rest, drawn_words_line, input_line, output_line, drawn_length_line, inside_lines, first_stop, last_stop, is_whole_inside, outside_line, shown_lines, open_lines, drawn_chain_lines}, Picture.{core_head, chains_head, heads, task_name}}
+use Rattle.cl_draw.specs.Picture.{chain_name, by_core, by_cores, row_names, task_elements, look_of, chain_elements, picture}
 use Rattle.cl_draw.proofs.NamesOf.{of_core, of_task, of_chain, of_runnable}
 
--- ---- names
+-- ---- row_names
 
 byte_plain : (byte : ℕ) → is_name_byte byte ≡ true → is_format_byte byte ≡ false
 byte_plain byte is = grind (arith, common_steps)
@@ -43,7 +43,7 @@ module _ (model : SystemModel) (named : AreNamed model) where
   runnable_plain : (task place : ℕ) → IsPlainText (slice_index_or (task_at model task).runnables place no_runnable).name
   runnable_plain = of_runnable IsPlainText no_name_plain name_plain model named
 
-  -- ---- heads and names
+  -- ---- heads and row_names
 
   chains_head_plain : (chains : ℕ) → LinesPlain (chains_head model chains)
   chains_head_plain zero = tt
@@ -58,8 +58,8 @@ module _ (model : SystemModel) (named : AreNamed model) where
   by_cores_plain lines each = lines-flat_map (by_core model lines) (range_with_len 0 (length model.cores))
       (λ core. lines-flat_map lines (tasks_of_core model core) each)
 
-  names_plain : LinesPlain (names model)
-  unfolding names
+  names_plain : LinesPlain (row_names model)
+  unfolding row_names
   names_plain = lines-append (by_cores model (task_name model)) (flat_map (chain_name model) (range_with_len 0 (length model.chains)))
       (by_cores_plain (task_name model) (λ task. ((task_plain task, tt), (tt, tt))))
       (lines-flat_map (chain_name model) (range_with_len 0 (length model.chains)) (λ chain. ((chain_plain chain, tt), (tt, tt))))
@@ -133,7 +133,7 @@ module _ (model : SystemModel) (named : AreNamed model) where
       (names-append (steps_head model look opening reaction) steps tt
       (names-flat_map (step_pieces_at model look reaction.stops) (range_with_len 0 (length reaction.stops - 1)) (λ k. tt))) tt
 
-  said_plain : (look : Look) (reaction : Reaction) → NamesPlain (words_line model look reaction)
+  said_plain : (look : Look) (reaction : Reaction) → NamesPlain (drawn_words_line model look reaction)
   said_plain look reaction =
       names-append (words_place look reaction) (words_rest model look reaction (first_stop reaction) (last_stop reaction))
       (choose NamesPlain (nat_le (x_of look.window reaction.from + x_of look.window reaction.to) 14000) (words_left look reaction) (words_right look reaction) (λ is. tt) (λ not. tt))
@@ -150,7 +150,7 @@ module _ (model : SystemModel) (named : AreNamed model) where
         (
           steps_plain look (codes "<path class=\"l\" d=\"M") reaction,
           lines-append (map (frame_line model look) reaction.stops)
-              (input_line model look reaction ∷ output_line model look reaction ∷ length_line look reaction ∷ words_line model look reaction ∷ [])
+              (input_line model look reaction ∷ output_line model look reaction ∷ drawn_length_line look reaction ∷ drawn_words_line model look reaction ∷ [])
               (lines-map (frame_line model look) reaction.stops (λ stop. tt))
               (tt, (tt, (tt, (said_plain look reaction, tt)))),
         ),
@@ -163,8 +163,8 @@ module _ (model : SystemModel) (named : AreNamed model) where
   shown_plain look name plain (Some reaction) = choose LinesPlain (is_whole_inside look reaction) (inside_lines model look name reaction) (outside_line look reaction ∷ [])
       (λ is. inside_plain look name plain reaction) (λ not. (tt, tt))
 
-  chain_lines_plain : (look : Look) (name : List ℕ) → IsPlainText name → (reaction : Option Reaction) → LinesPlain (chain_lines model look name reaction)
-  unfolding chain_lines
+  chain_lines_plain : (look : Look) (name : List ℕ) → IsPlainText name → (reaction : Option Reaction) → LinesPlain (drawn_chain_lines model look name reaction)
+  unfolding drawn_chain_lines
   chain_lines_plain look name plain reaction = lines-append (open_lines name look ++ shown_lines model look name reaction) (close_line ∷ [])
       (lines-append (open_lines name look) (shown_lines model look name reaction) ((plain, tt), (tt, tt)) (shown_plain look name plain reaction)) (tt, tt)
 
@@ -175,7 +175,7 @@ module _ (model : SystemModel) (named : AreNamed model) where
   by_parts run window rows reactions =
       let first : List Element = begin window run.table.ticks (bottom model + 460) in
       let headed : List Element = first ++ heads model in
-      let named_too : List Element = headed ++ names model in
+      let named_too : List Element = headed ++ row_names model in
       let ruled : List Element = named_too ++ axis window (bottom model) in
       let drawn : List Element = ruled ++ by_cores model (task_elements model run window rows) in
       let chained : List Element = drawn ++ flat_map (chain_elements model window reactions) (range_with_len 0 (length model.chains)) in
@@ -183,7 +183,7 @@ module _ (model : SystemModel) (named : AreNamed model) where
       (lines-append drawn (flat_map (chain_elements model window reactions) (range_with_len 0 (length model.chains)))
       (lines-append ruled (by_cores model (task_elements model run window rows))
       (lines-append named_too (axis window (bottom model))
-      (lines-append headed (names model)
+      (lines-append headed (row_names model)
       (lines-append first (heads model) (begin_plain window run.table.ticks (bottom model + 460)) heads_plain)
       names_plain) (axis_plain window (bottom model)))
       (by_cores_plain (task_elements model run window rows) (λ task. row_plain run window task (row_top model task) (row_at rows task))))

@@ -3,7 +3,7 @@ use Rattle.std.proofs.Common.{◌≡◌, ℕ, ◌<◌, List, length, sym, subst}
 use Rattle.std.specs.Prelude.{slice_index}
 use Rattle.cl_model.specs.{declared.group.Group.Group, Groups.group_at}
 use Rattle.cl_runs.specs.{TaskTiming.System, Run.Run, Moments.Writes, Chains.{Moments, JobChain, HasWritten, IsForwardChain}, RunChains.run_moments}
-use Rattle.cl_draw.specs.{declared.stops.Stop.Stop, Reactions.{IsStop, no_stop}}
+use Rattle.cl_draw.specs.{declared.stops.Stop.Stop, Reactions.{IsStop, no_drawn_stop}}
 use Rattle.cl_draw.proofs.FirstItems.{AreFirst}
 
 -- a job that has written
@@ -14,7 +14,7 @@ written_at system run group job has = (has.write, has.writes)
 
 -- the stops of the first groups
 abbrev pub AreStopsBelow : Moments → List Group → (jobs : List ℕ) → (n : ℕ) → List Stop → Type 0
-AreStopsBelow moments groups jobs n stops = AreFirst (λ i (stop : Stop). IsStop moments (group_at groups i) (slice_index jobs i) stop) no_stop n stops
+AreStopsBelow moments groups jobs n stops = AreFirst (λ i (stop : Stop). IsStop moments (group_at groups i) (slice_index jobs i) stop) no_drawn_stop n stops
 
 -- the job of a group of a complete forward chain has written
 pub written_here : (system : System) (run : Run) (groups : List Group) (chain : JobChain) → IsForwardChain (run_moments system run) groups chain

@@ -8,7 +8,7 @@ use Rattle.cl_model.proofs.GroupFacts.{groups_at_are, groups_at_some}
 use Rattle.cl_runs.specs.{Legal.IsLegal, Run.{Run, jobs_of}, SystemOf.system_of, Chains.{JobChain, IsForwardChain, first_job}, RunChains.run_moments, Measured.IsMeasuredBy}
 use Rattle.cl_chain.proofs.{DecidedMoments.{Decided, lt_or_not}, SomeMeasured.run_measured}
 use Rattle.cl_picture.specs.{declared.window.Window.Window, Bars.bars, Pieces.print}
-use Rattle.cl_draw.specs.{declared.{rows.Row.Row, stops.{Stop.Stop, Reaction.Reaction}}, Items.{part_item, bands}, Rows.{IsRowOf, no_row}, Reactions.{no_stop, IsStop, IsShownOf, IsDrawnReaction}, Picture.{picture, window_between, IsPictureOf}, Inner.TaskRuns.IsTaskRun}
+use Rattle.cl_draw.specs.{declared.{rows.Row.Row, stops.{Stop.Stop, Reaction.Reaction}}, Items.{part_item, bands}, Rows.{IsRowOf, no_row}, Reactions.{no_drawn_stop, IsStop, IsShownOf, IsDrawnReaction}, Picture.{picture, window_between, IsPictureOf}, Inner.TaskRuns.IsTaskRun}
 use Rattle.cl_draw.proofs.{StopFacts.{reads_somewhere, is_stop}, ReactionFacts.written_at, SomeParts.{some_parts, some_finishes}}
 
 -- what is so of each number below n is so of the items of a list
@@ -73,7 +73,7 @@ module _ (model : SystemModel) (valid : IsValid model) (run : Run) (legal : IsLe
     some_shown None is = (None, tt)
     some_shown (Some longest) is =
         let stops = some_list (λ i (stop : Stop). IsStop (run_moments (system_of model) run) (group_at (groups_at model chain) i) (slice_index longest.jobs i) stop)
-        (length (groups_at model chain)) no_stop (some_stop longest is.is_chain) in (
+        (length (groups_at model chain)) no_drawn_stop (some_stop longest is.is_chain) in (
           Some (record { from = longest.from; to = longest.to; stops = stops.0 }),
           record { from = refl; to = refl; one_a_group = stops.1; stops = stops.2 },
         )

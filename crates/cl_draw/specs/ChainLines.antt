@@ -12,13 +12,13 @@ abbrev pub middle_of : SystemModel → (task : ℕ) → ℕ
 middle_of model task = row_top model task + 180
 
 -- the line of a chain in a row with this middle: chains of two colours don't hide each other
-abbrev pub line_of : (colour middle : ℕ) → ℕ
-line_of colour middle =
+abbrev pub coloured_line : (colour middle : ℕ) → ℕ
+coloured_line colour middle =
     if colour == 0 then middle else (if colour == 1 then middle + 40 else (if colour == 2 then middle - 40 else middle + 80))
 
 -- the line of a chain in the row of a stop
-abbrev pub line_at : SystemModel → (colour : ℕ) → Stop → ℕ
-line_at model colour stop = line_of colour (middle_of model stop.task)
+abbrev pub stop_line : SystemModel → (colour : ℕ) → Stop → ℕ
+stop_line model colour stop = coloured_line colour (middle_of model stop.task)
 
 -- half the height of the frame round a job
 abbrev pub half_of : (colour : ℕ) → ℕ
@@ -54,22 +54,22 @@ reaction_title_line model name reaction = title_head name reaction ++ flat_map (
 abbrev pub falls_line : SystemModel → Look → Reaction → Element
 falls_line model look reaction =
     Fixed (codes "<path class=\"v\" d=\"M") ∷ Number (x_of look.window reaction.from) ∷ Fixed (codes " ") ∷ Number (look.y + 270)
-    ∷ Fixed (codes "V") ∷ Number (line_at model look.colour (first_stop reaction))
+    ∷ Fixed (codes "V") ∷ Number (stop_line model look.colour (first_stop reaction))
     ∷ Fixed (codes "M") ∷ Number (x_of look.window reaction.to) ∷ Fixed (codes " ") ∷ Number (look.y + 270)
-    ∷ Fixed (codes "V") ∷ Number (line_at model look.colour (last_stop reaction)) ∷ Fixed (codes "\"/>") ∷ []
+    ∷ Fixed (codes "V") ∷ Number (stop_line model look.colour (last_stop reaction)) ∷ Fixed (codes "\"/>") ∷ []
 
 -- from the input to the read of the first job
 abbrev pub steps_head : SystemModel → Look → (opening : List ℕ) → Reaction → List Piece
 steps_head model look opening reaction =
-    Fixed opening ∷ Number (x_of look.window reaction.from) ∷ Fixed (codes " ") ∷ Number (line_at model look.colour (first_stop reaction))
+    Fixed opening ∷ Number (x_of look.window reaction.from) ∷ Fixed (codes " ") ∷ Number (stop_line model look.colour (first_stop reaction))
     ∷ Fixed (codes "H") ∷ Number (x_of look.window (first_stop reaction).read) ∷ []
 
 -- from the write of a job to the read of the next
 abbrev pub step_pieces : SystemModel → Look → (stop next : Stop) → List Piece
 step_pieces model look stop next =
     Fixed (codes "M") ∷ Number (x_of look.window stop.write) ∷ Fixed (codes " ")
-    ∷ Number (leave look.colour (middle_of model stop.task) (middle_of model next.task) (line_at model look.colour next))
-    ∷ Fixed (codes "V") ∷ Number (line_at model look.colour next) ∷ Fixed (codes "H") ∷ Number (x_of look.window next.read) ∷ []
+    ∷ Number (leave look.colour (middle_of model stop.task) (middle_of model next.task) (stop_line model look.colour next))
+    ∷ Fixed (codes "V") ∷ Number (stop_line model look.colour next) ∷ Fixed (codes "H") ∷ Number (x_of look.window next.read) ∷ []
 
 -- the step to the stop after a stop
 abbrev pub step_pieces_at : SystemModel → Look → List Stop → (k : ℕ) → List Piece
@@ -93,16 +93,16 @@ frame_line model look stop =
 abbrev pub input_line : SystemModel → Look → Reaction → Element
 input_line model look reaction =
     Fixed (codes "<circle class=\"i\" cx=\"") ∷ Number (x_of look.window reaction.from)
-    ∷ Fixed (codes "\" cy=\"") ∷ Number (line_at model look.colour (first_stop reaction)) ∷ Fixed (codes "\" r=\"45\"/>") ∷ []
+    ∷ Fixed (codes "\" cy=\"") ∷ Number (stop_line model look.colour (first_stop reaction)) ∷ Fixed (codes "\" r=\"45\"/>") ∷ []
 
 abbrev pub output_line : SystemModel → Look → Reaction → Element
 output_line model look reaction =
     Fixed (codes "<circle class=\"f\" cx=\"") ∷ Number (x_of look.window reaction.to)
-    ∷ Fixed (codes "\" cy=\"") ∷ Number (line_at model look.colour (last_stop reaction)) ∷ Fixed (codes "\" r=\"25\"/>") ∷ []
+    ∷ Fixed (codes "\" cy=\"") ∷ Number (stop_line model look.colour (last_stop reaction)) ∷ Fixed (codes "\" r=\"25\"/>") ∷ []
 
 -- the length, below
-abbrev pub length_line : Look → Reaction → Element
-length_line look reaction =
+abbrev pub drawn_length_line : Look → Reaction → Element
+drawn_length_line look reaction =
     Fixed (codes "<path class=\"l\" d=\"M") ∷ Number (x_of look.window reaction.from) ∷ Fixed (codes " ") ∷ Number (look.y + 210)
     ∷ Fixed (codes "v120m0-60H") ∷ Number (x_of look.window reaction.to) ∷ Fixed (codes "m0-60v120\"/>") ∷ []
 
@@ -126,28 +126,28 @@ words_rest model look reaction first last =
     ∷ Fixed (codes ", output by ") ∷ Name (task_at model last.task).name ∷ Fixed (codes ":") ∷ Number last.job ∷ Fixed (codes "</text>") ∷ []
 
 -- the words
-abbrev pub words_line : SystemModel → Look → Reaction → Element
-words_line model look reaction = words_place look reaction ++ words_rest model look reaction (first_stop reaction) (last_stop reaction)
+abbrev pub drawn_words_line : SystemModel → Look → Reaction → Element
+drawn_words_line model look reaction = words_place look reaction ++ words_rest model look reaction (first_stop reaction) (last_stop reaction)
 
 unfoldable pub inside_lines : SystemModel → Look → (name : List ℕ) → Reaction → List Element
 inside_lines model look name reaction =
     reaction_title_line model name reaction ∷ falls_line model look reaction
     ∷ steps_line model look (codes "<path class=\"o\" d=\"M") reaction ∷ steps_line model look (codes "<path class=\"l\" d=\"M") reaction
     ∷ map (frame_line model look) reaction.stops
-    ++ input_line model look reaction ∷ output_line model look reaction ∷ length_line look reaction ∷ words_line model look reaction ∷ []
+    ++ input_line model look reaction ∷ output_line model look reaction ∷ drawn_length_line look reaction ∷ drawn_words_line model look reaction ∷ []
 
 -- ---- the lines of a chain
 
-abbrev pub group_line : (name : List ℕ) → Look → Element
-group_line name look =
+abbrev pub drawn_group_line : (name : List ℕ) → Look → Element
+drawn_group_line name look =
     Fixed (codes "<g id=\"chain-") ∷ Name name ∷ Fixed (codes "\" class=\"c c") ∷ Number look.colour ∷ Fixed (codes "\">") ∷ []
 
 abbrev pub open_lines : (name : List ℕ) → Look → List Element
 open_lines name look =
-    group_line name look ∷ (Fixed (codes "<path class=\"w\" d=\"M160 ") ∷ Number (look.y + 185) ∷ Fixed (codes "h90\"/>") ∷ []) ∷ []
+    drawn_group_line name look ∷ (Fixed (codes "<path class=\"w\" d=\"M160 ") ∷ Number (look.y + 185) ∷ Fixed (codes "h90\"/>") ∷ []) ∷ []
 
-abbrev pub none_line : Look → Element
-none_line look =
+abbrev pub drawn_none_line : Look → Element
+drawn_none_line look =
     Fixed (codes "<text class=\"m\" x=\"2080\" y=\"") ∷ Number (look.y + 230) ∷ Fixed (codes "\">no complete reaction in this run</text>") ∷ []
 
 abbrev pub outside_line : Look → Reaction → Element
@@ -167,9 +167,9 @@ reaction_lines model look name reaction =
 
 -- what is shown of a chain
 abbrev pub shown_lines : SystemModel → Look → (name : List ℕ) → Option Reaction → List Element
-shown_lines model look name None = none_line look ∷ []
+shown_lines model look name None = drawn_none_line look ∷ []
 shown_lines model look name (Some reaction) = reaction_lines model look name reaction
 
 -- the lines of a chain of this name
-unfoldable pub chain_lines : SystemModel → Look → (name : List ℕ) → Option Reaction → List Element
-chain_lines model look name reaction = open_lines name look ++ shown_lines model look name reaction ++ close_line ∷ []
+unfoldable pub drawn_chain_lines : SystemModel → Look → (name : List ℕ) → Option Reaction → List Element
+drawn_chain_lines model look name reaction = open_lines name look ++ shown_lines model look name reaction ++ close_line ∷ []

@@ -4,9 +4,9 @@ use Rattle.std.specs.List.{flat_map, range_with_len}
 use Rattle.cl_model.specs.{declared.model.SystemModel.SystemModel, ByNumber.{task_at, chain_at, core_at, tasks_of_core}}
 use Rattle.cl_runs.specs.Run.{Run}
 use Rattle.cl_picture.specs.{declared.window.Window.Window, Pieces.{Fixed, Number, Name, Element, print}, Axis.axis, Frame.{begin, end}}
-use Rattle.cl_draw.specs.{declared.{chain_lines.Look.Look, rows.Row.Row, stops.Reaction.Reaction}, Places.{core_top, row_top, chains_top, chain_top, bottom}, Rows.{IsRowOf, row_at}, RowLines.row_lines, Reactions.{IsDrawnReaction, reaction_at}, ChainLines.chain_lines}
+use Rattle.cl_draw.specs.{declared.{chain_lines.Look.Look, rows.Row.Row, stops.Reaction.Reaction}, Places.{core_top, row_top, chains_top, chain_top, bottom}, Rows.{IsRowOf, row_at}, RowLines.row_lines, Reactions.{IsDrawnReaction, reaction_at}, ChainLines.drawn_chain_lines}
 
--- ---- heads and names
+-- ---- heads and row_names
 
 -- the head of a core
 abbrev pub core_head : SystemModel → (core : ℕ) → Element
@@ -53,9 +53,9 @@ by_core model lines core = flat_map lines (tasks_of_core model core)
 abbrev pub by_cores : SystemModel → (lines : ℕ → List Element) → List Element
 by_cores model lines = flat_map (by_core model lines) (range_with_len 0 (length model.cores))
 
--- the names of all rows
-unfoldable pub names : SystemModel → List Element
-names model = by_cores model (task_name model) ++ flat_map (chain_name model) (range_with_len 0 (length model.chains))
+-- the row_names of all rows
+unfoldable pub row_names : SystemModel → List Element
+row_names model = by_cores model (task_name model) ++ flat_map (chain_name model) (range_with_len 0 (length model.chains))
 
 -- ---- rows
 
@@ -69,14 +69,14 @@ look_of model window chain = record { window = window; colour = chain % 4; y = c
 
 -- the row of a chain
 abbrev pub chain_elements : SystemModel → Window → List (Option Reaction) → (chain : ℕ) → List Element
-chain_elements model window reactions chain = chain_lines model (look_of model window chain) (chain_at model chain).name (reaction_at reactions chain)
+chain_elements model window reactions chain = drawn_chain_lines model (look_of model window chain) (chain_at model chain).name (reaction_at reactions chain)
 
 -- ---- the picture
 
 -- the picture of these rows and reactions
 unfoldable pub picture : SystemModel → Run → Window → List Row → List (Option Reaction) → List Element
 picture model run window rows reactions =
-    begin window run.table.ticks (bottom model + 460) ++ heads model ++ names model ++ axis window (bottom model)
+    begin window run.table.ticks (bottom model + 460) ++ heads model ++ row_names model ++ axis window (bottom model)
     ++ by_cores model (task_elements model run window rows)
     ++ flat_map (chain_elements model window reactions) (range_with_len 0 (length model.chains)) ++ end (bottom model)
 

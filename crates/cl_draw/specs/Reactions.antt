@@ -5,12 +5,12 @@ use Rattle.cl_runs.specs.{Run.Run, SystemOf.system_of, Chains.{Moments, JobChain
 use Rattle.cl_draw.specs.declared.stops.{Stop.Stop, Reaction.Reaction}
 
 -- what stands past the last stop
-unfoldable pub no_stop : Stop
-no_stop = record { task = 0; job = 0; read = 0; write = 0 }
+unfoldable pub no_drawn_stop : Stop
+no_drawn_stop = record { task = 0; job = 0; read = 0; write = 0 }
 
 -- the stop of a group
 abbrev pub stop_at_group : List Stop → (group : ℕ) → Stop
-stop_at_group stops group = slice_index_or stops group no_stop
+stop_at_group stops group = slice_index_or stops group no_drawn_stop
 
 -- a job of a group, with the moments at which it reads and writes
 pub record IsStop (moments : Moments) (group : Group) (job : ℕ) (stop : Stop) : Type 0 where

@@ -1,6 +1,6 @@
 //! The heights of the lines of a chain. Heights are lengths from the top.
 ghost use Rattle.std.specs.Prelude.{◌≡◌, ◌<◌, ◌≤◌, ◌^◌, length};
-ghost use Rattle.cl_draw.specs.{ChainLines.{middle_of, line_of, line_at, half_of, leave}, Inner.Heights.ArePlaces};
+ghost use Rattle.cl_draw.specs.{ChainLines.{middle_of, coloured_line, stop_line, half_of, leave}, Inner.Heights.ArePlaces};
 
 use crate::places::Places;
 use crate::stops::Stop;
@@ -9,7 +9,7 @@ use cl_model::ValidModel;
 /// Returns the height of the line of a chain of this colour, in a row with this middle.
 pub(crate) fn line_of(colour: u64, middle: u64) -> u64
     requires { middle ≤ 10 ^ 13 }
-    ensures { result ≡ line_of colour middle }
+    ensures { result ≡ coloured_line colour middle }
 {
     if colour == 0 {
         middle
@@ -36,7 +36,7 @@ pub(crate) fn middle_of(model: &ValidModel, places: &Places, stop: &Stop) -> u64
 pub(crate) fn line_at(model: &ValidModel, places: &Places, colour: u64, stop: &Stop) -> u64
     requires places { ArePlaces model.now places.now }
     requires known { stop.now.task < length model.now.tasks }
-    ensures { result ≡ line_at model.now colour stop.now }
+    ensures { result ≡ stop_line model.now colour stop.now }
 {
     line_of(colour, middle_of(model, places, stop))
 }

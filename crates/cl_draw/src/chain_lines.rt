@@ -1,7 +1,7 @@
 //! The lines of a chain: its longest reaction, along the jobs that carry it.
 ghost use Rattle.std.specs.Prelude.{◌≡◌, ◌+◌, ◌++◌, [], ◌∷◌, OnOk};
 ghost use Rattle.cl_picture.specs.Pieces.{print};
-ghost use Rattle.cl_draw.specs.{ChainLines.{reaction_lines, group_line, open_lines, none_line, outside_line, shown_lines, chain_lines}, Inner.{Heights.ArePlaces, Looks.{IsLook, AreStopsOf, IsDrawableReaction}}};
+ghost use Rattle.cl_draw.specs.{ChainLines.{reaction_lines, drawn_group_line, open_lines, drawn_none_line, outside_line, shown_lines, drawn_chain_lines}, Inner.{Heights.ArePlaces, Looks.{IsLook, AreStopsOf, IsDrawableReaction}}};
 
 use crate::places::Places;
 use crate::reaction_lines::put_inside;
@@ -12,7 +12,7 @@ use cl_text::Text;
 use cl_time::NoMemory;
 
 /// How a chain is drawn: in which window, in which of four colours, and from which height on.
-#[derive(Clone, Copy, Debug, PartialEq, Eq)]
+#[derive(Clone, Copy, PartialEq, Eq)]
 pub struct Look {
     pub window: Window,
     pub colour: u64,
@@ -32,7 +32,7 @@ pub(crate) fn put_chain(
     requires look { IsLook look }
     requires drawable { IsDrawableReaction model.now reaction.now }
     ensures { OnOk result
-        (text.new ≡ text.old ++ print (chain_lines model.now look name.now reaction.now)) }
+        (text.new ≡ text.old ++ print (drawn_chain_lines model.now look name.now reaction.now)) }
 {
     put_open(text, name, look)?;
     put_shown(text, model, places, look, name, reaction)?;
@@ -58,7 +58,7 @@ fn put_open(text: &mut Text, name: &Name, look: Look) -> Result<(), NoMemory>
 
 /// Puts the line that opens a chain.
 fn put_group(text: &mut Text, name: &Name, look: Look) -> Result<(), NoMemory>
-    ensures { OnOk result (text.new ≡ text.old ++ print (group_line name.now look ∷ [])) }
+    ensures { OnOk result (text.new ≡ text.old ++ print (drawn_group_line name.now look ∷ [])) }
 {
     put_line(
         text,
@@ -96,7 +96,7 @@ fn put_shown(
 /// Puts the line that says that the run has no complete reaction of the chain.
 fn put_none(text: &mut Text, look: Look) -> Result<(), NoMemory>
     requires { IsLook look }
-    ensures { OnOk result (text.new ≡ text.old ++ print (none_line look ∷ [])) }
+    ensures { OnOk result (text.new ≡ text.old ++ print (drawn_none_line look ∷ [])) }
 {
     put_line(
         text,

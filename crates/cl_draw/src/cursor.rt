@@ -8,7 +8,7 @@ use crate::task_run::TaskRun;
 
 /// The runnable of a job with which a task goes on, and how long it still executes: 0 where no job
 /// is left.
-#[derive(Clone, Copy, Debug, PartialEq, Eq)]
+#[derive(Clone, Copy, PartialEq, Eq)]
 pub(crate) struct Cursor {
     pub(crate) job: usize,
     pub(crate) place: usize,

@@ -4,7 +4,7 @@ ghost use Rattle.std.specs.List.{flat_map, range_with_len};
 ghost use Rattle.cl_model.specs.Validity.{IsValid};
 ghost use Rattle.cl_picture.specs.{declared.window.TheConstants.MOST_WINDOW, Pieces.print, Window.IsPictureWindow};
 ghost use Rattle.cl_runs.specs.{Legal.IsLegal, Run.Run, SystemOf.system_of};
-ghost use Rattle.cl_draw.specs.{Picture.{core_head, chains_head, heads, row_name_line, row_ground_line, name_lines, task_name, chain_name, names, by_cores, task_elements, chain_elements, picture, AreReactions, IsPictureOf}, Inner.{Heights.ArePlaces, Drawings.IsDrawing}};
+ghost use Rattle.cl_draw.specs.{Picture.{core_head, chains_head, heads, row_name_line, row_ground_line, name_lines, task_name, chain_name, row_names, by_cores, task_elements, chain_elements, picture, AreReactions, IsPictureOf}, Inner.{Heights.ArePlaces, Drawings.IsDrawing}};
 
 use crate::chain_lines::{Look, put_chain};
 use crate::places::{Places, places_of};
@@ -178,7 +178,7 @@ fn put_chains_head(text: &mut Text, model: &ValidModel, places: &Places) -> Resu
 /// Puts the names and the backgrounds of all rows.
 fn put_names(text: &mut Text, model: &ValidModel, places: &Places) -> Result<(), NoMemory>
     requires { ArePlaces model.now places.now }
-    ensures { OnOk result (text.new ≡ text.old ++ print (names model.now)) }
+    ensures { OnOk result (text.new ≡ text.old ++ print (row_names model.now)) }
 {
     put_task_names(text, model, places)?;
     put_chain_names(text, model, places)

@@ -1,6 +1,6 @@
 //! The lines of the marks of a row.
 ghost use Rattle.std.specs.Prelude.{◌≡◌, ◌<◌, ◌++◌, [], ◌∷◌, length, OnOk};
-ghost use Rattle.cl_picture.specs.{Pieces.{spelled, print}, Window.IsPictureWindow};
+ghost use Rattle.cl_picture.specs.{Pieces.{pieces_text, print}, Window.IsPictureWindow};
 ghost use Rattle.cl_draw.specs.MarkLines.{wait_pieces, waits_line, arrival_pieces, arrivals_line, due_pieces, dues_line, has_room, arrival_label_line, label_at, labels, mark_lines};
 
 use crate::marks::{Arrival, Marks};
@@ -35,7 +35,7 @@ fn put_waits(text: &mut Text, window: Window, waits: &[Span]) -> Result<(), NoMe
 /// Puts a wait.
 fn put_wait(text: &mut Text, window: Window, wait: Span) -> Result<(), NoMemory>
     requires { IsPictureWindow window }
-    ensures { OnOk result (text.new ≡ text.old ++ spelled (wait_pieces window wait)) }
+    ensures { OnOk result (text.new ≡ text.old ++ pieces_text (wait_pieces window wait)) }
 {
     put_pieces(
         text,
@@ -64,7 +64,7 @@ fn put_arrivals(text: &mut Text, window: Window, arrivals: &[Arrival]) -> Result
 /// Puts an arrival.
 fn put_arrival(text: &mut Text, window: Window, arrival: Arrival) -> Result<(), NoMemory>
     requires { IsPictureWindow window }
-    ensures { OnOk result (text.new ≡ text.old ++ spelled (arrival_pieces window arrival)) }
+    ensures { OnOk result (text.new ≡ text.old ++ pieces_text (arrival_pieces window arrival)) }
 {
     put_pieces(
         text,
@@ -91,7 +91,7 @@ fn put_dues(text: &mut Text, window: Window, dues: &[u64]) -> Result<(), NoMemor
 /// Puts a deadline.
 fn put_due(text: &mut Text, window: Window, due: u64) -> Result<(), NoMemory>
     requires { IsPictureWindow window }
-    ensures { OnOk result (text.new ≡ text.old ++ spelled (due_pieces window due)) }
+    ensures { OnOk result (text.new ≡ text.old ++ pieces_text (due_pieces window due)) }
 {
     put_pieces(
         text,

@@ -18,7 +18,7 @@ use std::alloc::Global;
 pub const MOST_ARRIVALS: usize = 120;
 
 /// The arrival of a job.
-#[derive(Clone, Copy, Debug, PartialEq, Eq)]
+#[derive(Clone, Copy, PartialEq, Eq)]
 pub struct Arrival {
     /// The job, counted from 0.
     pub job: u64,
@@ -26,7 +26,7 @@ pub struct Arrival {
 }
 
 /// The marks of a row, each kind in the order of the jobs.
-#[derive(Debug, Drop)]
+#[derive(Drop)]
 pub struct Marks {
     /// The arrivals in the window.
     pub arrivals: List<Arrival>,

@@ -14,7 +14,7 @@ use std::alloc::Global;
 
 /// A part of a stretch of a task: some ticks of one runnable of one job, on one side of the job's
 /// deadline.
-#[derive(Clone, Copy, Debug, PartialEq, Eq)]
+#[derive(Clone, Copy, PartialEq, Eq)]
 pub struct Part {
     /// The job, counted from 0.
     pub job: usize,
@@ -25,7 +25,7 @@ pub struct Part {
 }
 
 /// What a task executes, as parts in order, and when its jobs finish, in order of the jobs that do.
-#[derive(Debug, Drop)]
+#[derive(Drop)]
 pub(crate) struct Work {
     pub(crate) parts: List<Part>,
     pub(crate) finishes: List<u64>,

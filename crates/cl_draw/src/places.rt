@@ -20,7 +20,7 @@ pub const ROW: u64 = 400;
 pub(crate) const MOST_HEIGHT: u64 = 1_000_000_000;
 
 /// The heights at which heads and rows begin.
-#[derive(Debug, Drop)]
+#[derive(Drop)]
 pub(crate) struct Places {
     /// For each core in file order the beginning of its head, and behind these the end of the rows
     /// of the last core.

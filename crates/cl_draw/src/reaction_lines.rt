@@ -1,8 +1,8 @@
 //! The lines of a reaction that lies in the window, along the jobs that carry it.
 ghost use Rattle.std.specs.Prelude.{◌≡◌, ◌+◌, ◌<◌, ◌++◌, [], ◌∷◌, length, map, OnOk};
 ghost use Rattle.std.specs.List.{flat_map};
-ghost use Rattle.cl_picture.specs.Pieces.{spelled, print};
-ghost use Rattle.cl_draw.specs.{ChainLines.{stop_pieces, title_head, reaction_title_line, falls_line, frame_line, input_line, output_line, length_line, inside_lines}, Inner.{Heights.ArePlaces, Looks.{IsLook, AreStopsOf}}};
+ghost use Rattle.cl_picture.specs.Pieces.{pieces_text, print};
+ghost use Rattle.cl_draw.specs.{ChainLines.{stop_pieces, title_head, reaction_title_line, falls_line, frame_line, input_line, output_line, drawn_length_line, inside_lines}, Inner.{Heights.ArePlaces, Looks.{IsLook, AreStopsOf}}};
 
 use crate::chain_heights::{half_of, line_at, middle_of};
 use crate::chain_lines::Look;
@@ -75,7 +75,7 @@ fn put_title(
 fn put_stops(text: &mut Text, model: &ValidModel, stops: &[Stop]) -> Result<(), NoMemory>
     requires { AreStopsOf model.now stops.now }
     ensures { OnOk result
-        (text.new ≡ text.old ++ spelled (flat_map (stop_pieces model.now) stops.now)) }
+        (text.new ≡ text.old ++ pieces_text (flat_map (stop_pieces model.now) stops.now)) }
 {
     for stop in stops {
         put_stop(text, model, stop)?;
@@ -85,7 +85,7 @@ fn put_stops(text: &mut Text, model: &ValidModel, stops: &[Stop]) -> Result<(), 
 
 /// Puts the line of the title of a reaction up to its jobs.
 fn put_title_head(text: &mut Text, name: &Name, reaction: &Reaction) -> Result<(), NoMemory>
-    ensures { OnOk result (text.new ≡ text.old ++ spelled (title_head name.now reaction.now)) }
+    ensures { OnOk result (text.new ≡ text.old ++ pieces_text (title_head name.now reaction.now)) }
 {
     put_pieces(
         text,
@@ -106,7 +106,7 @@ fn put_title_head(text: &mut Text, name: &Name, reaction: &Reaction) -> Result<(
 /// Puts the name of a job of a reaction.
 fn put_stop(text: &mut Text, model: &ValidModel, stop: &Stop) -> Result<(), NoMemory>
     requires { stop.now.task < length model.now.tasks }
-    ensures { OnOk result (text.new ≡ text.old ++ spelled (stop_pieces model.now stop.now)) }
+    ensures { OnOk result (text.new ≡ text.old ++ pieces_text (stop_pieces model.now stop.now)) }
 {
     put_pieces(
         text,
@@ -266,7 +266,7 @@ fn put_output(
 /// Puts the line of a reaction's length.
 fn put_length(text: &mut Text, look: Look, reaction: &Reaction) -> Result<(), NoMemory>
     requires { IsLook look }
-    ensures { OnOk result (text.new ≡ text.old ++ print (length_line look reaction.now ∷ [])) }
+    ensures { OnOk result (text.new ≡ text.old ++ print (drawn_length_line look reaction.now ∷ [])) }
 {
     put_line(
         text,

@@ -1,6 +1,6 @@
 //! The steps of a reaction: from the write of each job to the read of the next.
 ghost use Rattle.std.specs.Prelude.{◌≡◌, ◌+◌, ◌<◌, ◌++◌, [], ◌∷◌, length, OnOk};
-ghost use Rattle.cl_picture.specs.Pieces.{spelled, print};
+ghost use Rattle.cl_picture.specs.Pieces.{pieces_text, print};
 ghost use Rattle.cl_draw.specs.{ChainLines.{steps_head, step_pieces, step_pieces_at, steps_line}, Inner.{Heights.ArePlaces, Looks.{IsLook, AreStopsOf}}};
 
 use crate::chain_heights::{leave, line_at, middle_of};
@@ -49,7 +49,7 @@ fn put_steps_head(
     requires look { IsLook look }
     requires stops { AreStopsOf model.now reaction.now.stops }
     ensures { OnOk result
-        (text.new ≡ text.old ++ spelled (steps_head model.now look opening.now reaction.now)) }
+        (text.new ≡ text.old ++ pieces_text (steps_head model.now look opening.now reaction.now)) }
 {
     let first = first_stop(reaction);
     put_pieces(
@@ -79,7 +79,7 @@ fn put_step_at(
     requires stops { AreStopsOf model.now stops.now }
     requires within { group + 1 < length stops.now }
     ensures { OnOk result
-        (text.new ≡ text.old ++ spelled (step_pieces_at model.now look stops.now group)) }
+        (text.new ≡ text.old ++ pieces_text (step_pieces_at model.now look stops.now group)) }
 {
     let stop = stop_at(stops, group);
     let next = stop_at(stops, group + 1);
@@ -100,7 +100,7 @@ fn put_step(
     requires stop { stop.now.task < length model.now.tasks }
     requires next { next.now.task < length model.now.tasks }
     ensures { OnOk result
-        (text.new ≡ text.old ++ spelled (step_pieces model.now look stop.now next.now)) }
+        (text.new ≡ text.old ++ pieces_text (step_pieces model.now look stop.now next.now)) }
 {
     let line = line_at(model, places, look.colour, next);
     let middle = middle_of(model, places, stop);

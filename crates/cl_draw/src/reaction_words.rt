@@ -1,7 +1,7 @@
 //! The words on a reaction, in the row of its chain.
 ghost use Rattle.std.specs.Prelude.{◌≡◌, ◌+◌, ◌<◌, ◌++◌, [], ◌∷◌, length, OnOk};
-ghost use Rattle.cl_picture.specs.Pieces.{spelled, print};
-ghost use Rattle.cl_draw.specs.{ChainLines.{words_place, words_line, words_rest}, Inner.Looks.{IsLook, AreStopsOf}};
+ghost use Rattle.cl_picture.specs.Pieces.{pieces_text, print};
+ghost use Rattle.cl_draw.specs.{ChainLines.{words_place, drawn_words_line, words_rest}, Inner.Looks.{IsLook, AreStopsOf}};
 
 use crate::chain_lines::Look;
 use crate::stops::{Reaction, Stop, first_stop, last_stop};
@@ -20,7 +20,7 @@ pub(crate) fn put_words(
     requires look { IsLook look }
     requires stops { AreStopsOf model.now reaction.now.stops }
     ensures { OnOk result
-        (text.new ≡ text.old ++ print (words_line model.now look reaction.now ∷ [])) }
+        (text.new ≡ text.old ++ print (drawn_words_line model.now look reaction.now ∷ [])) }
 {
     let first = first_stop(reaction);
     let last = last_stop(reaction);
@@ -67,7 +67,7 @@ fn put_words_rest(
 /// they end.
 fn put_words_place(text: &mut Text, look: Look, reaction: &Reaction) -> Result<(), NoMemory>
     requires { IsLook look }
-    ensures { OnOk result (text.new ≡ text.old ++ spelled (words_place look reaction.now)) }
+    ensures { OnOk result (text.new ≡ text.old ++ pieces_text (words_place look reaction.now)) }
 {
     let from = look.window.x(reaction.from);
     let to = look.window.x(reaction.to);

@@ -1,8 +1,8 @@
 //! The lines of a row: its bars and its marks.
 ghost use Rattle.std.specs.Prelude.{◌≡◌, ◌<◌, ◌++◌, [], ◌∷◌, length, map, All, OnOk};
-ghost use Rattle.cl_picture.specs.{Pieces.{spelled, print}, Window.IsPictureWindow};
+ghost use Rattle.cl_picture.specs.{Pieces.{pieces_text, print}, Window.IsPictureWindow};
 ghost use Rattle.cl_model.specs.ByNumber.{task_at};
-ghost use Rattle.cl_draw.specs.{RowLines.{finish_piece, part_pieces, band_pieces, last_pieces, rest_pieces, words_pieces, bar_head, bar_line, row_lines}, Inner.{TaskRuns.IsTaskRun, DrawnBars.{IsSayable, IsDrawableBar}}};
+ghost use Rattle.cl_draw.specs.{RowLines.{finish_piece, part_pieces, band_pieces, last_pieces, rest_pieces, words_pieces, bar_head, bar_line, row_lines}, Inner.{TaskRuns.IsTaskRun, DrawnBars.{IsItemOfTask, IsDrawableBar}}};
 
 use crate::mark_lines::put_marks;
 use crate::marks::marks_of;
@@ -79,7 +79,7 @@ fn put_bar_head(
     task: &TaskDef,
     bar: &Bar,
 ) -> Result<(), NoMemory>
-    ensures { OnOk result (text.new ≡ text.old ++ spelled (bar_head opening.now task.now bar.now)) }
+    ensures { OnOk result (text.new ≡ text.old ++ pieces_text (bar_head opening.now task.now bar.now)) }
 {
     put_pieces(
         text,
@@ -105,8 +105,8 @@ fn put_words(
     first: &Item,
     last: Option<End>,
 ) -> Result<(), NoMemory>
-    requires { IsSayable task.now first.now }
-    ensures { OnOk result (text.new ≡ text.old ++ spelled (words_pieces task.now first.now last)) }
+    requires { IsItemOfTask task.now first.now }
+    ensures { OnOk result (text.new ≡ text.old ++ pieces_text (words_pieces task.now first.now last)) }
 {
     match last {
         None => put_rest(text, task, first),
@@ -117,7 +117,7 @@ fn put_words(
 /// Puts what a bar of several items says of them: the name of the last job, when the first item
 /// begins and when the last ends.
 fn put_last(text: &mut Text, task: &TaskDef, first: &Item, last: End) -> Result<(), NoMemory>
-    ensures { OnOk result (text.new ≡ text.old ++ spelled (last_pieces task.now first.now last)) }
+    ensures { OnOk result (text.new ≡ text.old ++ pieces_text (last_pieces task.now first.now last)) }
 {
     put_pieces(
         text,
@@ -136,9 +136,9 @@ fn put_last(text: &mut Text, task: &TaskDef, first: &Item, last: End) -> Result<
 
 /// Puts what a bar of one item says of it behind the name of its job.
 fn put_rest(text: &mut Text, task: &TaskDef, item: &Item) -> Result<(), NoMemory>
-    requires { IsSayable task.now item.now }
+    requires { IsItemOfTask task.now item.now }
     ensures { OnOk result
-        (text.new ≡ text.old ++ spelled (rest_pieces task.now item.now item.now.rest)) }
+        (text.new ≡ text.old ++ pieces_text (rest_pieces task.now item.now item.now.rest)) }
 {
     match item.rest {
         Rest::Part { place } => put_part(text, task, place, item),
@@ -153,7 +153,7 @@ fn put_rest(text: &mut Text, task: &TaskDef, item: &Item) -> Result<(), NoMemory
 /// Puts what is said of a part: its runnable, and when it begins and ends.
 fn put_part(text: &mut Text, task: &TaskDef, place: usize, item: &Item) -> Result<(), NoMemory>
     requires { place < length task.now.runnables }
-    ensures { OnOk result (text.new ≡ text.old ++ spelled (part_pieces task.now place item.now)) }
+    ensures { OnOk result (text.new ≡ text.old ++ pieces_text (part_pieces task.now place item.now)) }
 {
     put_pieces(
         text,
@@ -177,7 +177,7 @@ fn put_band(
     item: &Item,
 ) -> Result<(), NoMemory>
     ensures { OnOk result
-        (text.new ≡ text.old ++ spelled (band_pieces arrival due finished item.now)) }
+        (text.new ≡ text.old ++ pieces_text (band_pieces arrival due finished item.now)) }
 {
     put_pieces(
         text,
@@ -195,7 +195,7 @@ fn put_band(
 
 /// Puts the finish of the job of a band, or `none` where it doesn't finish.
 fn put_finish(text: &mut Text, finished: bool, to: u64) -> Result<(), NoMemory>
-    ensures { OnOk result (text.new ≡ text.old ++ spelled (finish_piece finished to ∷ [])) }
+    ensures { OnOk result (text.new ≡ text.old ++ pieces_text (finish_piece finished to ∷ [])) }
 {
     if finished {
         put_pieces(text, &[Piece::Number(to)])

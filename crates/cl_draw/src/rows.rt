@@ -16,7 +16,7 @@ use std::alloc::Global;
 
 /// The bars of a row: those of the bands of the task's jobs, and those of the parts of what it
 /// executes.
-#[derive(Debug, Drop)]
+#[derive(Drop)]
 pub struct Row {
     pub bands: List<Bar>,
     pub parts: List<Bar>,

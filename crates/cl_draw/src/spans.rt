@@ -10,7 +10,7 @@ use cl_time::NoMemory;
 use std::alloc::Global;
 
 /// The ticks `from..to`.
-#[derive(Clone, Copy, Debug, PartialEq, Eq)]
+#[derive(Clone, Copy, PartialEq, Eq)]
 pub struct Span {
     pub from: u64,
     pub to: u64,

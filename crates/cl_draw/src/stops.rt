@@ -12,7 +12,7 @@ use cl_time::NoMemory;
 use std::alloc::Global;
 
 /// A job of a group of a chain, with the moments at which it reads and writes.
-#[derive(Clone, Copy, Debug, PartialEq, Eq)]
+#[derive(Clone, Copy, PartialEq, Eq)]
 pub struct Stop {
     pub task: u32,
     /// The job, counted from 0.
@@ -23,7 +23,7 @@ pub struct Stop {
 
 /// The longest reaction of a chain: from when to when it lasts, and its stops, one for each group
 /// in order.
-#[derive(Debug, Drop)]
+#[derive(Drop)]
 pub struct Reaction {
     pub from: u64,
     pub to: u64,

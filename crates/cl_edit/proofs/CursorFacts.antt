@@ -4,7 +4,7 @@ use Rattle.std.specs.Prelude.{codes, filter, ◌==◌, is_some, not}
 use Rattle.std.specs.List.{join_with_byte}
 use denote.Bor.{Bor}
 use Rattle.cl_edit.specs.{declared.{cursor.Cursor.Cursor, edit.Edit.Edit, edit_lines.ListedEdit.ListedEdit, version.Version.{Version, TheVariants.{One, Two}}}, Said.{Said, lines, is_blank, has_bytes, words_of, plain, says, unended, ended_from, spoken_from, said_from, IsTitle, IsTitled}}
-use Rattle.cl_edit.specs.Inner.{Left.{lines_left, said_in, HasNumbers, version_in, AreBehindTitle, IsTaken, IsNoneTaken, SaysThis, ReadsFirst, SaysNone}, LineReads.{fields_in, words_in, edit_in}, Parts.parts}
+use Rattle.cl_edit.specs.Inner.{Left.{lines_left, said_in, HasNumbers, titled_version, AreBehindTitle, IsTaken, IsNoneTaken, SaysThis, ReadsFirst, SaysNone}, LineReads.{fields_in, words_in, edit_in}, Parts.parts}
 use Rattle.cl_edit.proofs.{FirstLists.{said_at, ended_more, joined_lines}, LineMeanings.{edit_back, edit_said}, Titles.{some_line, last_left, titled_by}}
 
 -- ---- no line is left
@@ -124,7 +124,7 @@ numbers_fit text left titled second short =
 -- ---- what is read of a title and of a line
 
 pub behind_title : (text title : List ℕ) (left : Option (Bor (List ℕ))) (last : Bool) (version : Version) → lines text ≡ title ∷ lines_left left → is_some left ≡ not last
-    → Some version ≡ version_in title last → length text < 2 ^ 64 → AreBehindTitle text (record { version = version; left = left; number = 2 })
+    → Some version ≡ titled_version title last → length text < 2 ^ 64 → AreBehindTitle text (record { version = version; left = left; number = 2 })
 behind_title text title left last version are same is short =
     let titled = titled_by text title (lines_left left) last (last_left left last same) are version (sym is) in
     record { titled = titled; second = refl; numbered = numbers_fit text (record { version = version; left = left; number = 2 }) titled refl short }

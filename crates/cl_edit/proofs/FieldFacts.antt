@@ -17,7 +17,7 @@ use Rattle.cl_text.proofs.{LineLemmas.graphic_decimal, DecimalLemmas.grammar_of_
 use Rattle.cl_model.specs.declared.{limits.TheConstants.{MOST_TICKS, MOST_PRIORITY, MOST_REQUIRED, LEAST_JOBS_OF_BURST, MOST_JOBS_OF_BURST}, task.AccessKind.{AccessKind, TheVariants.{Explicit, Implicit, Timed}}, chain.LengthKind.TheVariants.{Reaction, Age, Reduced}}
 use Rattle.cl_model.specs.{declared.chain.RequirementKind.{RequirementKind, TheVariants.{Length, Delay}}, Ranges.{IsTime, IsBurstCount}, Name.{is_name_byte, is_name, IsName}, Kinds.{access_word, requirement_word}, Reading.Checks.meaning_of}
 use Rattle.cl_model.proofs.{ListFacts.both_pass, Names.name_bytes}
-use Rattle.cl_edit.specs.{Said.has_bytes, Lines.{flag_word, deadline_word}, Inner.{Parts.parts, Fields.{name_in, number_in, time_in, flag_in, access_in, deadline_in, names_in, requirement_kind_in}}}
+use Rattle.cl_edit.specs.{Said.has_bytes, Lines.{flag_word, deadline_word}, Inner.{Parts.parts, Fields.{name_in, decimal_from, time_in, flag_in, access_in, deadline_in, names_in, requirement_kind_in}}}
 
 -- a choice of a value or none
 pub chosen : {X : Type 0} (b : Bool) (x y : X) → cond b (Some x) None ≡ Some y → (b ≡ true) × (x ≡ y)
@@ -53,8 +53,8 @@ of_le m n le = grind (arith, nat_tests)
 
 -- ---- numbers
 
-pub number_said : (least most : ℕ) (word : List ℕ) (n : ℕ) → number_in least most word ≡ Some n → (word ≡ decimal n) × (least ≤ n) × (n ≤ most)
-unfolding number_in
+pub number_said : (least most : ℕ) (word : List ℕ) (n : ℕ) → decimal_from least most word ≡ Some n → (word ≡ decimal n) × (least ≤ n) × (n ≤ most)
+unfolding decimal_from
 number_said least most word n is =
     let value = digits_value 10 word in
     let both = chosen (bytes_eq word (decimal value) && nat_le least value && nat_le value most) value n is in
@@ -62,15 +62,15 @@ number_said least most word n is =
     let same : word ≡ decimal value = (bytes_eq-Decides word (decimal value)).0 tests.0 in
     (same ∙ ap decimal both.1, subst (λ m. least ≤ m) both.1 (le_of least value tests.1), subst (λ m. m ≤ most) both.1 (le_of value most tests.2))
 
-pub number_read : (least most n : ℕ) → n < 2 ^ 64 → least ≤ n → n ≤ most → number_in least most (decimal n) ≡ Some n
-unfolding number_in
+pub number_read : (least most n : ℕ) → n < 2 ^ 64 → least ≤ n → n ≤ most → decimal_from least most (decimal n) ≡ Some n
+unfolding decimal_from
 number_read least most n small low high =
     let value : digits_value 10 (decimal n) ≡ n = (decimal_is_IsNumeral n small).1 in
     let same : bytes_eq (decimal n) (decimal n) ≡ true = (bytes_eq-Decides (decimal n) (decimal n)).1 refl in
     rw (value, same, of_le least n low, of_le n most high) refl
 
-pub no_number : (least most : ℕ) (word : List ℕ) → ((n : ℕ) → least ≤ n → n ≤ most → word ≢ decimal n) → number_in least most word ≡ None
-unfolding number_in
+pub no_number : (least most : ℕ) (word : List ℕ) → ((n : ℕ) → least ≤ n → n ≤ most → word ≢ decimal n) → decimal_from least most word ≡ None
+unfolding decimal_from
 no_number least most word none =
     let value = digits_value 10 word in
     not_chosen (bytes_eq word (decimal value) && nat_le least value && nat_le value most) value (λ passes.
@@ -133,7 +133,7 @@ name_field = record {
   word = λ name named. both_true (has_bytes name) (list_all is_graphic name) (name_some name named) (graphic_bytes name (name_bytes name named));
 }
 
-pub number_field : (least most : ℕ) → most < 2 ^ 64 → IsField (number_in least most) decimal (λ n. (least ≤ n) × (n ≤ most))
+pub number_field : (least most : ℕ) → most < 2 ^ 64 → IsField (decimal_from least most) decimal (λ n. (least ≤ n) × (n ≤ most))
 number_field least most small = record {
   said = λ word n is. let said = number_said least most word n is in (said.0, (said.1, said.2));
   back = λ n within. number_read least most n (omega arith) within.0 within.1;
@@ -145,16 +145,16 @@ number_field least most small = record {
 pub time_field : IsField time_in decimal IsTime
 time_field = number_field 1 MOST_TICKS (omega arith)
 
-pub ticks_field : IsField (number_in 0 MOST_TICKS) decimal (λ n. (0 ≤ n) × (n ≤ MOST_TICKS))
+pub ticks_field : IsField (decimal_from 0 MOST_TICKS) decimal (λ n. (0 ≤ n) × (n ≤ MOST_TICKS))
 ticks_field = number_field 0 MOST_TICKS (omega arith)
 
-pub priority_field : IsField (number_in 0 MOST_PRIORITY) decimal (λ n. (0 ≤ n) × (n ≤ MOST_PRIORITY))
+pub priority_field : IsField (decimal_from 0 MOST_PRIORITY) decimal (λ n. (0 ≤ n) × (n ≤ MOST_PRIORITY))
 priority_field = number_field 0 MOST_PRIORITY (omega arith)
 
-pub most_field : IsField (number_in 0 MOST_REQUIRED) decimal (λ n. (0 ≤ n) × (n ≤ MOST_REQUIRED))
+pub most_field : IsField (decimal_from 0 MOST_REQUIRED) decimal (λ n. (0 ≤ n) × (n ≤ MOST_REQUIRED))
 most_field = number_field 0 MOST_REQUIRED (omega arith)
 
-pub count_field : IsField (number_in LEAST_JOBS_OF_BURST MOST_JOBS_OF_BURST) decimal IsBurstCount
+pub count_field : IsField (decimal_from LEAST_JOBS_OF_BURST MOST_JOBS_OF_BURST) decimal IsBurstCount
 count_field = number_field LEAST_JOBS_OF_BURST MOST_JOBS_OF_BURST (omega arith)
 
 -- ---- yes or no, kinds of access

@@ -7,7 +7,7 @@ use Rattle.std.proofs.lemmas.List.{append-nil}
 use Rattle.std.proofs.lemmas.List.Elements.{All-nil, All-cons, All-head, All-tail}
 use Rattle.cl_model.specs.{declared.{limits.TheConstants.{MOST_PRIORITY, MOST_TASKS}, chain.RequirementDef.RequirementDef}, Kinds.requirement_word, Name.IsName, Named.has_name, NameSets.{names_with, AreNew}}
 use Rattle.cl_edit.specs.{declared.{edit.{Edit.{Edit, TheVariants.{Priorities, Requirement, DropRequirement}}, NamedPriority.NamedPriority}, version.Version.TheVariants.Two, fault.Unread.{Unread, TheVariants.{Bad, NoMemory}}}, Lines.{priority_words, requirement_words}, Reading.IsLineEdit}
-use Rattle.cl_edit.specs.Inner.{Parts.{with_left, then_read, ReadsUpTo}, LineReads.{priority_in, unless_above, new_priority_in, tasks_of, priority_list_in, with_priorities_read, priorities_in, requirement_in, drop_requirement_in}}
+use Rattle.cl_edit.specs.Inner.{Parts.{with_left, then_read, ReadsUpTo}, LineReads.{read_priority, unless_above, new_priority_in, tasks_of, priority_list_in, with_priorities_read, priorities_in, requirement_in, drop_requirement_in}}
 use Rattle.cl_edit.proofs.{FieldFacts.{is_word, name_field, priority_field, most_field, requirement_field, some_same}, WordsFacts.{took, gave, three_words}, WordLists.{then_some, IsItem, AreGood, list_said, list_back}, SimpleLines.{Says, so_says, says_by, answer_of, name_said}}
 
 -- ---- requirements
@@ -48,7 +48,7 @@ pub record IsGoodPriority (p : NamedPriority) : Type 0 where
 abbrev SaysPriority : List (List ℕ) → NamedPriority → List (List ℕ) → Type 0
 SaysPriority words p left = (words ≡ priority_words p ++ left) × IsGoodPriority p
 
-priority_said : (words : List (List ℕ)) (p : NamedPriority) (left : List (List ℕ)) → priority_in words ≡ Some (p, left) → SaysPriority words p left
+priority_said : (words : List (List ℕ)) (p : NamedPriority) (left : List (List ℕ)) → read_priority words ≡ Some (p, left) → SaysPriority words p left
 priority_said words p left is =
     let a = took name_field words _ _ is in
     let b = took priority_field a.1 _ _ a.4 in
@@ -57,7 +57,7 @@ priority_said words p left is =
     let same : one ≡ other = some_same one other b.4 in
     subst (λ (q : NamedPriority × List (List ℕ)). SaysPriority words q.0 q.1) same (a.2 ∙ ap (λ w. a.0 ∷ w) b.2, record { named = a.3; in_range = b.3.1 })
 
-priority_back : (p : NamedPriority) (left : List (List ℕ)) → IsGoodPriority p → priority_in (priority_words p ++ left) ≡ Some (p, left)
+priority_back : (p : NamedPriority) (left : List (List ℕ)) → IsGoodPriority p → read_priority (priority_words p ++ left) ≡ Some (p, left)
 priority_back p left good = gave name_field p.task _ _ good.named ∙ gave priority_field p.priority _ _ (omega arith, good.in_range)
 
 -- ---- priorities, none of a task that stands above
@@ -72,16 +72,16 @@ abbrev unless : Bool → NamedPriority → List (List ℕ) → Option Priority
 unless there p left = cond there None (Some (p, left))
 
 -- what is read of one, by what is read of its words
-pub unread_priority : (above : List NamedPriority) (words left : List (List ℕ)) (fault : Unread) → ReadsUpTo {X = NamedPriority} (Err fault) left (priority_in words)
+pub unread_priority : (above : List NamedPriority) (words left : List (List ℕ)) (fault : Unread) → ReadsUpTo {X = NamedPriority} (Err fault) left (read_priority words)
     → ReadsUpTo {X = NamedPriority} (Err fault) left (new_priority_in above words)
 unread_priority above words left Bad bad = ap (λ o. then_read o (unless_above above)) bad
 unread_priority above words left NoMemory bad = tt
 
-pub twice : (above : List NamedPriority) (words left : List (List ℕ)) (p : NamedPriority) → priority_in words ≡ Some (p, left) → has_name p.task (tasks_of above) ≡ true
+pub twice : (above : List NamedPriority) (words left : List (List ℕ)) (p : NamedPriority) → read_priority words ≡ Some (p, left) → has_name p.task (tasks_of above) ≡ true
     → new_priority_in above words ≡ None
 twice above words left p is there = ap (λ o. then_read o (unless_above above)) is ∙ ap (λ b. unless b p left) there
 
-pub new_one : (above : List NamedPriority) (words left : List (List ℕ)) (p : NamedPriority) → priority_in words ≡ Some (p, left)
+pub new_one : (above : List NamedPriority) (words left : List (List ℕ)) (p : NamedPriority) → read_priority words ≡ Some (p, left)
     → has_name p.task (tasks_of above) ≡ false
     → new_priority_in above words ≡ Some (p, left)
 new_one above words left p is new = ap (λ o. then_read o (unless_above above)) is ∙ ap (λ b. unless b p left) new
@@ -94,7 +94,7 @@ new_said : (above : List NamedPriority) (words : List (List ℕ)) (p : NamedPrio
     → (words ≡ priority_words p ++ left) × IsNewPriority above p
 new_said above words p left is =
     let other : Priority = (p, left) in
-    let a = then_some (priority_in words) (unless_above above) other is in
+    let a = then_some (read_priority words) (unless_above above) other is in
     let one : Priority = (a.0, a.1) in
     let new : (has_name a.0.task (tasks_of above) ≡ false) × (one ≡ other) = by_name (has_name a.0.task (tasks_of above)) one other a.3 in
     let first = priority_said words a.0 a.1 a.2 in

@@ -7,31 +7,31 @@ use Rattle.std.proofs.lemmas.List.{get_or_append_left}
 use Rattle.std.proofs.lemmas.List.Elements.{All-nil, All-cons, All-head, All-tail, All-append}
 use Rattle.std.proofs.lemmas.List.Sums.{sum_by-append}
 use Rattle.std.proofs.Math.Seq.{get_or-append_seam}
-use Rattle.cl_edit.specs.{declared.{edit.Edit.Edit, edit_lines.ListedEdit.ListedEdit, limits.TheConstants.{MOST_EDITS, MOST_REPORTS}, version.Version.Version}, Lines.edit_text, Reading.{IsLineEdit, is_written, MayBeListed, edits_of, said_of}, Inner.Left.{before_others, edits_said}}
+use Rattle.cl_edit.specs.{declared.{edit.Edit.Edit, edit_lines.ListedEdit.ListedEdit, limits.TheConstants.{MOST_EDITS, MOST_REPORTS}, version.Version.Version}, Lines.edit_text, Reading.{IsLineEdit, writes_text, MayBeListed, edits_of, said_of}, Inner.Left.{before_others, edits_said}}
 use Rattle.cl_edit.specs.Inner.LineReads.{edit_in}
 use Rattle.cl_edit.proofs.LineMeanings.{edit_back}
 
 -- how many of them something is written for
 abbrev pub written_in : List Edit → ℕ
-written_in edits = count_by is_written edits
+written_in edits = count_by writes_text edits
 
-pub written_more : (edits : List Edit) (edit : Edit) → written_in (edits ++ edit ∷ []) ≡ written_in edits + cond (is_written edit) 1 0
-written_more edits edit = omega (arith, sum_by-append (λ e. cond (is_written e) 1 0) edits (edit ∷ []))
+pub written_more : (edits : List Edit) (edit : Edit) → written_in (edits ++ edit ∷ []) ≡ written_in edits + cond (writes_text edit) 1 0
+written_more edits edit = omega (arith, sum_by-append (λ e. cond (writes_text e) 1 0) edits (edit ∷ []))
 
 -- ---- lists that may be listed
 
 -- there is room for one more edit
 pub record HasRoom (edits written : ℕ) (edit : Edit) : Type 0 where
   pub few : edits < MOST_EDITS
-  pub few_written : is_written edit ≡ true → written < MOST_REPORTS
+  pub few_written : writes_text edit ≡ true → written < MOST_REPORTS
 
 pub room_or_none : (edits written : ℕ) (edit : Edit) → HasRoom edits written edit ⊎ ¬ HasRoom edits written edit
 room_or_none edits written edit = elim (cases_lt edits MOST_EDITS) [
-  | inl few ↦ by_written (is_written edit) refl few
+  | inl few ↦ by_written (writes_text edit) refl few
   | inr many ↦ inr (λ room. absurd (omega (arith, room.few)))
 ]
   where
-    by_written : (b : Bool) → is_written edit ≡ b → edits < MOST_EDITS → HasRoom edits written edit ⊎ ¬ HasRoom edits written edit
+    by_written : (b : Bool) → writes_text edit ≡ b → edits < MOST_EDITS → HasRoom edits written edit ⊎ ¬ HasRoom edits written edit
     by_written false other few = inl (record { few = few; few_written = λ is. absurd (cc) })
     by_written true is few = elim (cases_lt written MOST_REPORTS) [
       | inl few_too ↦ inl (record { few = few; few_written = λ is. few_too })
@@ -54,7 +54,7 @@ module _ (version : Version) (edits : List Edit) (edit : Edit) where
   listed_more listed line room = record {
     lines = All-append (IsLineEdit version) edits (edit ∷ []) listed.lines (All-cons (IsLineEdit version) edit [] line (All-nil (IsLineEdit version)));
     few = omega (arith, room.few, length-append edits (edit ∷ []));
-    few_written = omega (arith, written_more edits edit, one_more (is_written edit) (written_in edits) listed.few_written room.few_written);
+    few_written = omega (arith, written_more edits edit, one_more (writes_text edit) (written_in edits) listed.few_written room.few_written);
   }
 
   pub line_of_last : MayBeListed version (edits ++ edit ∷ []) → IsLineEdit version edit
@@ -64,7 +64,7 @@ module _ (version : Version) (edits : List Edit) (edit : Edit) where
   pub room_of_last : MayBeListed version (edits ++ edit ∷ []) → HasRoom (length edits) (written_in edits) edit
   room_of_last listed = record {
     few = omega (arith, listed.few, length-append edits (edit ∷ []));
-    few_written = room_for_one (is_written edit) (written_in edits) (omega (arith, listed.few_written, written_more edits edit));
+    few_written = room_for_one (writes_text edit) (written_in edits) (omega (arith, listed.few_written, written_more edits edit));
   }
 
 -- the first edits of a list that may be listed
@@ -79,7 +79,7 @@ first_listed version edits edit more listed =
     record {
       lines = all_left version (edits ++ edit ∷ []) more whole.lines;
       few = omega (arith, whole.few, length-append (edits ++ edit ∷ []) more);
-      few_written = omega (arith, whole.few_written, sum_by-append (λ e. cond (is_written e) 1 0) (edits ++ edit ∷ []) more);
+      few_written = omega (arith, whole.few_written, sum_by-append (λ e. cond (writes_text e) 1 0) (edits ++ edit ∷ []) more);
     }
 
 -- ---- listed edits

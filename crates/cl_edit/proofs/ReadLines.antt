@@ -5,7 +5,7 @@ use Rattle.std.proofs.lemmas.List.{append-nil, length-map}
 use Rattle.std.proofs.lemmas.List.Elements.{All-nil, All-head, All-tail}
 use Rattle.std.proofs.lemmas.Bool.Decides.{nat_tests}
 use Rattle.cl_text.specs.declared.fault.LinesFault.{LinesFault, TheVariants.BadLine}
-use Rattle.cl_edit.specs.{declared.{cursor.Cursor.Cursor, edit.Edit.Edit, edit_lines.{Counted.Counted, ListedEdit.ListedEdit}, limits.TheConstants.{MOST_EDITS, MOST_REPORTS}, version.Version.Version}, Listed.GivesNext, Reading.{IsLineEdit, is_written, edits_of, said_of, AreEditsOf}}
+use Rattle.cl_edit.specs.{declared.{cursor.Cursor.Cursor, edit.Edit.Edit, edit_lines.{Counted.Counted, ListedEdit.ListedEdit}, limits.TheConstants.{MOST_EDITS, MOST_REPORTS}, version.Version.Version}, Listed.GivesNext, Reading.{IsLineEdit, writes_text, edits_of, said_of, AreEditsOf}}
 use Rattle.cl_edit.specs.{Reading.IsBadEditLine, Said.{Said, said_from}, Inner.{Counts.{is_full, with_one, counted_with}, Left.{lines_left, said_left, edits_said, edits_left, HasNumbers, AreLeft, AreBehindTitle, ReadsFirst, SaysNone}}}
 use Rattle.cl_edit.proofs.{Listings.{written_in, written_more, HasRoom, edits_more, edits_again, read_first}, Titles.one_title, SomeAnswer.{AreSoFar, all_so_far, none_said, no_room, one_so_far}}
 
@@ -24,11 +24,11 @@ room_by false false most is low few = cc
 
 not_full : (counted : Counted) (edit : Edit) → is_full counted edit ≡ false → HasRoom counted.edits counted.written edit
 not_full counted edit is =
-    let tests = no_room_by (nat_le MOST_EDITS counted.edits) (is_written edit) (nat_le MOST_REPORTS counted.written) is in
+    let tests = no_room_by (nat_le MOST_EDITS counted.edits) (writes_text edit) (nat_le MOST_REPORTS counted.written) is in
     record { few = grind (arith, nat_tests, tests.0); few_written = λ yes. let few = tests.1 yes in grind (arith, nat_tests, few) }
 
 full : (counted : Counted) (edit : Edit) → is_full counted edit ≡ true → ¬ HasRoom counted.edits counted.written edit
-full counted edit is room = room_by (nat_le MOST_EDITS counted.edits) (is_written edit) (nat_le MOST_REPORTS counted.written) is
+full counted edit is room = room_by (nat_le MOST_EDITS counted.edits) (writes_text edit) (nat_le MOST_REPORTS counted.written) is
     (grind (arith, nat_tests, room.few)) (λ yes. let few = room.few_written yes in grind (arith, nat_tests, few))
 
 of_count : (b : Bool) (line : ℕ) (more counted : Counted) → Ok counted ≡ cond b (Err (BadLine line)) (Ok more) → (b ≡ false) × (counted ≡ more)
@@ -98,7 +98,7 @@ module _ (text : List ℕ) (left lines : Cursor) (counted : Counted) (read : Are
           edits = ap (λ (c : Counted). c.edits) room.1
               ∙ omega (arith, read.edits, ap length (edits_more read.listed (one ∷ [])), length-append (edits_of read.listed) (one.edit ∷ []));
           written =
-              ap (λ (c : Counted). c.written) room.1 ∙ ap (λ n. n + cond (is_written one.edit) 1 0) read.written
+              ap (λ (c : Counted). c.written) room.1 ∙ ap (λ n. n + cond (writes_text one.edit) 1 0) read.written
               ∙ sym (written_more (edits_of read.listed) one.edit)
               ∙ ap written_in (sym (edits_more read.listed (one ∷ [])));
         }

@@ -3,7 +3,8 @@ use Rattle.std.proofs.Common.{◌≡◌, Option, Some, List, ℕ, Bool, [], ◌�
 use Rattle.std.specs.Prelude.{codes, decimal}
 use Rattle.cl_model.specs.{declared.{limits.TheConstants.{MOST_STEPS, MOST_HOPS}, task.AccessKind.AccessKind, chain.ChainDef.ChainDef}, Name.IsName, Kinds.access_word}
 use Rattle.cl_edit.specs.{declared.{edit.Edit.{Edit, TheVariants.{Range, Whole, Period, Offset, Jitter, Distances, Burst, Deadline, Swap, Move, Kind, DropTask, AddChain, DropChain}}, version.Version.{Version, TheVariants.{One, Two}}}, Lines.{flag_word, deadline_word, names_word}}
-use Rattle.cl_edit.specs.{Lines.edit_words, Reading.IsLineEdit, Inner.LineReads.{name_line, word_line, two_word_line, range_in, whole_in, period_in, offset_in, jitter_in, distances_in, burst_in, deadline_line_in, swap_in, move_in, access_line_in, drop_task_in, drop_chain_in, chain_in}}
+use Rattle.cl_edit.specs.{Lines.edit_words, Reading.IsLineEdit, Inner.LineReads.{name_line, read_name_and_word, two_word_line, range_in, whole_in, period_in, offset_in, jitter_in, distances_in, burst_in, deadline_line_in, swap_in, move_in, access_line_in, drop_task_in, drop_chain_in}}
+use Rattle.cl_edit.specs.Inner.LineReads.{chain_in}
 use Rattle.cl_edit.proofs.{FieldFacts.{IsField, name_field, time_field, ticks_field, priority_field, count_field, flag_field, access_field, deadline_field}, NamesFacts.names_field, WordsFacts.{took, gave, three_words}}
 
 -- these words of a line are those of an edit, before others that are left
@@ -39,7 +40,7 @@ name_said version code make good are words edit left is =
 word_said : {X : Type 0} {read : List ℕ → Option X} {write : X → List ℕ} {Good : X → Type 0} → IsField read write Good
     → (version : Version) (code : List ℕ) (make : List ℕ → X → Edit) → ((name : List ℕ) (x : X) → IsName name → Good x → IsLineEdit version (make name x))
     → ((name : List ℕ) (x : X) → edit_words (make name x) ≡ code ∷ name ∷ write x ∷ [])
-    → (words : List (List ℕ)) (edit : Edit) (left : List (List ℕ)) → word_line read make words ≡ Some (edit, left) → Says version (code ∷ words) edit left
+    → (words : List (List ℕ)) (edit : Edit) (left : List (List ℕ)) → read_name_and_word read make words ≡ Some (edit, left) → Says version (code ∷ words) edit left
 word_said {write = write} field version code make good are words edit left is =
     let a = took name_field words _ _ is in
     let b = took field a.1 _ _ a.4 in

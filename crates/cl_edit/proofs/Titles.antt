@@ -5,7 +5,7 @@ use Rattle.std.specs.Str.{bytes_eq}
 use Rattle.std.proofs.lemmas.Slice.Eq.{bytes_eq-Decides}
 use denote.Bor.{Bor}
 use Rattle.cl_model.proofs.ListFacts.{both_pass}
-use Rattle.cl_edit.specs.{declared.version.Version.{Version, TheVariants.{One, Two}}, Said.{lines, plain, without_mark, IsTitled}, Reading.LacksTitle, Inner.{Left.{lines_left, version_in}, Parts.parts}}
+use Rattle.cl_edit.specs.{declared.version.Version.{Version, TheVariants.{One, Two}}, Said.{lines, plain, without_mark, IsTitled}, Reading.LacksTitle, Inner.{Left.{lines_left, titled_version}, Parts.parts}}
 use Rattle.cl_edit.proofs.{FieldFacts.{both_true, choose, chosen, some_same, of_word}, PartFacts.some_part}
 
 -- ---- one title
@@ -67,7 +67,7 @@ module _ (text title : List ℕ) (others : List (List ℕ)) (is_last : Bool) (la
   abbrev is_two : Bool
   is_two = bytes_eq (plain (without_mark title)) (codes "chainlat edits 2")
 
-  pub titled_by : (version : Version) → version_in title is_last ≡ Some version → IsTitled version text others
+  pub titled_by : (version : Version) → titled_version title is_last ≡ Some version → IsTitled version text others
   titled_by version is =
       choose is_one (Some One) (cond is_two (Some Two) None) (Some version) (IsTitled version text others) is
       (λ here same.
@@ -79,7 +79,7 @@ module _ (text title : List ℕ) (others : List (List ℕ)) (is_last : Bool) (la
       subst (λ v. IsTitled v text others) two.1
       (record { title = title; parts = are; is = of_word (plain (without_mark title)) (codes "chainlat edits 2") two.0 }))
 
-  no_title : version_in title is_last ≡ None → (version : Version) (more : List (List ℕ)) → IsTitled version text more → ⊥
+  no_title : titled_version title is_last ≡ None → (version : Version) (more : List (List ℕ)) → IsTitled version text more → ⊥
   no_title is One more titled =
       let behind = titled.parts in
       let same : title ≡ titled.title = cc in
@@ -96,7 +96,7 @@ module _ (text title : List ℕ) (others : List (List ℕ)) (is_last : Bool) (la
       let yes : is_two ≡ true = same_word (plain (without_mark title)) (codes "chainlat edits 2") (ap (λ line. plain (without_mark line)) same ∙ titled.is) in
       absurd (cc (none.1))
 
-  pub no_title_by : version_in title is_last ≡ None → LacksTitle text 1
+  pub no_title_by : titled_version title is_last ≡ None → LacksTitle text 1
   no_title_by is = record { none = no_title is; counted = refl }
 
 -- ---- each text has a title or lacks one
@@ -114,7 +114,7 @@ last_where : (others : List (List ℕ)) → IsLast (is_empty others) others
 last_where [] = record { some = λ no. absurd (cc); none = λ some. absurd (some refl) }
 last_where (line ∷ others) = record { some = λ yes none. cc; none = λ some. refl }
 
-by_version : (text title : List ℕ) (others : List (List ℕ)) → lines text ≡ title ∷ others → (o : Option Version) → version_in title (is_empty others) ≡ o
+by_version : (text title : List ℕ) (others : List (List ℕ)) → lines text ≡ title ∷ others → (o : Option Version) → titled_version title (is_empty others) ≡ o
     → TitleOf text ⊎ LacksTitle text 1
 by_version text title others are None is = inr (no_title_by text title others (is_empty others) (last_where others) are is)
 by_version text title others are (Some version) is =
@@ -122,7 +122,7 @@ by_version text title others are (Some version) is =
 
 by_lines : (text : List ℕ) (all : List (List ℕ)) → lines text ≡ all → TitleOf text ⊎ LacksTitle text 1
 by_lines text [] are = absurd (some_line text are)
-by_lines text (title ∷ others) are = by_version text title others are (version_in title (is_empty others)) refl
+by_lines text (title ∷ others) are = by_version text title others are (titled_version title (is_empty others)) refl
 
 pub title_of : (text : List ℕ) → TitleOf text ⊎ LacksTitle text 1
 title_of text = by_lines text (lines text) refl

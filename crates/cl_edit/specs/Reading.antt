@@ -62,17 +62,17 @@ pub record IsLineEdit (version : Version) (edit : Edit) : Type 0 where
 -- ---- which lists of edits have a text
 
 -- an edit that changes nothing, for which something is written
-abbrev pub is_written : Edit → Bool
-is_written Report = true
-is_written Tighten = true
-is_written Verify = true
-is_written edit = false
+abbrev pub writes_text : Edit → Bool
+writes_text Report = true
+writes_text Tighten = true
+writes_text Verify = true
+writes_text edit = false
 
 -- edits that may be lines of a version, and few enough of them; those for which something is written are among those that are counted
 pub record MayBeListed (version : Version) (edits : List Edit) : Type 0 where
   pub lines : All (IsLineEdit version) edits
   pub few : length edits ≤ MOST_EDITS
-  pub few_written : count_by is_written edits ≤ MOST_REPORTS
+  pub few_written : count_by writes_text edits ≤ MOST_REPORTS
 
 -- the edits that are listed, without their lines
 abbrev pub edits_of : List ListedEdit → List Edit

@@ -4,7 +4,7 @@ use cl_model::{
 };
 
 /// A change of a model, by the numbers of what it changes. Times are in ticks.
-#[derive(Debug, PartialEq, Eq, Drop)]
+#[derive(PartialEq, Eq, Drop)]
 pub enum Change {
     /// Sets the execution times of a runnable.
     Range {

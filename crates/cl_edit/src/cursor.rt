@@ -1,7 +1,7 @@
 //! A place in a list of edits, from which its lines are read.
 ghost use Rattle.std.specs.Prelude.{◌≡◌, ◌∷◌, None, MatchOption, IfOk};
 ghost use Rattle.cl_text.specs.LinesFault.{IfBadLine};
-ghost use Rattle.cl_edit.specs.{declared.version.Version.TheVariants.{One, Two}, Reading.LacksTitle, Said.lines, Inner.{Left.{lines_left, said_in, said_left, HasNumbers, version_in, AreBehindTitle, IsTaken, IsNoneTaken, SaysThis, ReadsFirst, SaysNone}, LineReads.edit_in}};
+ghost use Rattle.cl_edit.specs.{declared.version.Version.TheVariants.{One, Two}, Reading.LacksTitle, Said.lines, Inner.{Left.{lines_left, said_in, said_left, HasNumbers, titled_version, AreBehindTitle, IsTaken, IsNoneTaken, SaysThis, ReadsFirst, SaysNone}, LineReads.edit_in}};
 
 use crate::edit_lines::ListedEdit;
 use crate::fault::{EditsFault, Unread};
@@ -33,7 +33,7 @@ pub(crate) fn first_line(text: &[u8]) -> (&[u8], Option<&[u8]>)
 
 /// Which version of list begins with this line. In version 1 a line follows it, since it has an end.
 fn version_of(alloc: Global, title: &[u8], is_last: bool) -> Result<Option<Version>, NoMemory>
-    ensures { IfOk result (λ it. it ≡ version_in title.now is_last) }
+    ensures { IfOk result (λ it. it ≡ titled_version title.now is_last) }
 {
     if title == b"chainlat edits 1".as_slice() && !is_last {
         return Ok(Some(Version::One));

@@ -1,18 +1,18 @@
 //! Edits: small changes of a model. Times are in ticks.
 ghost use Rattle.std.specs.Prelude.{◌≡◌};
-ghost use Rattle.cl_edit.specs.Reading.{is_written};
+ghost use Rattle.cl_edit.specs.Reading.{writes_text};
 
 use cl_model::{AccessKind, ChainDef, List, Name, RequirementDef, TaskDef};
 
 /// The priority that the task of a name gets.
-#[derive(Debug, PartialEq, Eq, Drop)]
+#[derive(PartialEq, Eq, Drop)]
 pub struct NamedPriority {
     pub task: Name,
     pub priority: u64,
 }
 
 /// A change of a model. Times are in ticks.
-#[derive(Debug, PartialEq, Eq, Drop)]
+#[derive(PartialEq, Eq, Drop)]
 pub enum Edit {
     /// Sets the execution times of a runnable.
     Range {
@@ -107,7 +107,7 @@ pub enum Edit {
 impl Edit {
     /// Whether nothing is changed and something is written.
     pub(crate) fn is_written(&self) -> bool
-        ensures { result ≡ is_written self.now }
+        ensures { result ≡ writes_text self.now }
     {
         matches!(self, Edit::Report | Edit::Tighten | Edit::Verify)
     }

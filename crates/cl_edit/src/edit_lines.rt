@@ -12,7 +12,7 @@ use std::alloc::Global;
 use std::marker::Model;
 
 /// An edit of a list, by the number of its line in the text, counted from 1.
-#[derive(Debug, PartialEq, Eq, Drop)]
+#[derive(PartialEq, Eq, Drop)]
 pub struct ListedEdit {
     pub line: u64,
     pub edit: Edit,

@@ -6,7 +6,7 @@ use cl_time::NoMemory;
 pub type EditsFault = LinesFault;
 
 /// Why a word or a line isn't read: it is outside the grammar, or memory ran out.
-#[derive(Clone, Copy, Debug, PartialEq, Eq)]
+#[derive(Clone, Copy, PartialEq, Eq)]
 pub(crate) enum Unread {
     Bad,
     NoMemory,

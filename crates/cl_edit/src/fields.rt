@@ -1,6 +1,6 @@
 //! Reading single words of an edit: names, numbers, keywords, and lists of names.
 ghost use Rattle.std.specs.Prelude.{◌≡◌, [], ◌∷◌, IfOk, IfErr};
-ghost use Rattle.cl_edit.specs.{declared.fault.Unread.TheVariants.Bad, Inner.{Parts.{first_read, ReadsPart, ReadsUpTo}, Fields.{name_in, number_in, time_in, flag_in, access_in, deadline_in, names_in, requirement_kind_in}}};
+ghost use Rattle.cl_edit.specs.{declared.fault.Unread.TheVariants.Bad, Inner.{Parts.{first_read, ReadsPart, ReadsUpTo}, Fields.{name_in, decimal_from, time_in, flag_in, access_in, deadline_in, names_in, requirement_kind_in}}};
 
 use crate::fault::Unread;
 use crate::words::Parts;
@@ -15,7 +15,7 @@ fn name_of(word: &[u8]) -> Result<Name, Unread>
 }
 
 fn number_of(word: &[u8], least: u64, most: u64) -> Result<u64, Unread>
-    ensures { ReadsPart result (number_in least most word.now) }
+    ensures { ReadsPart result (decimal_from least most word.now) }
 {
     let Some(number) = read_decimal(word, most) else {
         return Err(Unread::Bad);
@@ -98,7 +98,7 @@ pub(crate) fn name(words: &mut Parts<'_>) -> Result<Name, Unread>
 
 /// Reads a number from `least` to `most`.
 pub(crate) fn number(words: &mut Parts<'_>, least: u64, most: u64) -> Result<u64, Unread>
-    ensures { ReadsUpTo result words.new (first_read (number_in least most) words.old) }
+    ensures { ReadsUpTo result words.new (first_read (decimal_from least most) words.old) }
 {
     number_of(word(words)?, least, most)
 }

@@ -1,7 +1,7 @@
 //! Reading the line of priorities: tasks and the priorities that they get, up to the end of the
 //! line.
 ghost use Rattle.std.specs.Prelude.{◌≡◌, [], IfOk};
-ghost use Rattle.cl_edit.specs.Inner.{Parts.{ReadsPart, ReadsUpTo}, LineReads.{priority_in, priority_list_in, priorities_in}};
+ghost use Rattle.cl_edit.specs.Inner.{Parts.{ReadsPart, ReadsUpTo}, LineReads.{read_priority, priority_list_in, priorities_in}};
 
 use crate::edit::{Edit, NamedPriority};
 use crate::fault::Unread;
@@ -12,7 +12,7 @@ use std::alloc::Global;
 
 /// Reads a task and the priority that it gets.
 fn priority(words: &mut Parts<'_>) -> Result<NamedPriority, Unread>
-    ensures { ReadsUpTo result words.new (priority_in words.old) }
+    ensures { ReadsUpTo result words.new (read_priority words.old) }
 {
     let task = fields::name(words)?;
     let priority = fields::number(words, 0, MOST_PRIORITY)?;

@@ -57,8 +57,8 @@ pub record IsCarriedOut {K : Type 0} (comes : Outcome → Type 0) (sink : SinkCa
   pub carried : IsWhole sink found status ⊎ IsCutShort sink found status
 
 -- How a call ends: out of memory, or with an outcome to which the words come.
-abbrev pub Ends : {K : Type 0} (comes : Outcome → Type 0) → SinkCall K → (status : ℕ) → Type 0
-Ends comes sink status = IsOutOfMemory sink status ⊎ IsCarriedOut comes sink status
+abbrev pub CallEnds : {K : Type 0} (comes : Outcome → Type 0) → SinkCall K → (status : ℕ) → Type 0
+CallEnds comes sink status = IsOutOfMemory sink status ⊎ IsCarriedOut comes sink status
 
 -- Where the shelf tells the files of the words, memory ran out or the outcome of the told bytes was written whole.
 abbrev pub KeepsToTold : {C K : Type 0} → Language C → (words : List (List ℕ)) (held : List ℕ → Held) → SinkCall K → (status : ℕ) → Type 0

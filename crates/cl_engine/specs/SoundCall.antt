@@ -2,13 +2,13 @@
 use Rattle.std.specs.Prelude.{◌≡◌, ◌≢◌, ◌⊎◌, ℕ, List, None, IsTrue}
 use Rattle.cl_io.specs.{Counts.{Rose, counted}, Names.SameAtEach}
 use Rattle.cl_engine.specs.{declared.status.TheConstants.{WORDS_REFUSED, READ_FAULT, LONG_FILE, MODEL_REFUSED, WRITE_FAULT, NO_MEMORY, ARGUMENT_NOT_TEXT}, Calls.{ShelfCall, SinkCall}, Fetched.{FileRose, FileTooLong, NoneRose, StaysBeside, TellsFiles, NoneAfter}, Language.Language}
-use Rattle.cl_engine.specs.{Language.{files_of, limited_of}, Outcome.{read_fault, long_file}, Run.{ComesTo, ComesToTold, Ends, KeepsToTold, WritesOfFile}, Steps.AreFewSteps}
+use Rattle.cl_engine.specs.{Language.{files_of, limited_of}, Outcome.{read_fault, long_file}, Run.{ComesTo, ComesToTold, CallEnds, KeepsToTold, WritesOfFile}, Steps.AreFewSteps}
 
 -- What is kept where the call made of the shelf what `shelf` says, and of the sink what `sink` says, with the shelf and the
 -- steps before and after it, and answered this status.
 pub record IsSoundCall {C S K : Type 0} (language : Language C) (words : List (List ℕ)) (shelf : ShelfCall) (before after : S) (sink : SinkCall K) (steps steps_after status : ℕ) : Type 0 where
   -- It ends out of memory, or with an outcome to which the words come.
-  pub ends : Ends (ComesTo language words shelf) sink status
+  pub ends : CallEnds (ComesTo language words shelf) sink status
   -- What it leaves: what the shelf holds, the numbers of other names, the whole shelf where the words are refused; and at
   -- most so many steps as the told files ask for, whatever is answered.
   pub held : SameAtEach shelf.held shelf.held_after
@@ -32,6 +32,6 @@ pub record IsSoundCall {C S K : Type 0} (language : Language C) (words : List (L
   -- From the bytes to the bytes, where the shelf tells them: the outcome of the told bytes, or a fault that a count shows;
   -- and that outcome alone, where no count rose.
   pub told_files : (contents : ℕ → List ℕ) → TellsFiles (files_of language words) words shelf.held contents
-      → Ends (ComesToTold language (language.spelled words) words shelf contents) sink status
+      → CallEnds (ComesToTold language (language.spelled words) words shelf contents) sink status
   pub told : NoneRose (files_of language words) words shelf → ¬ Rose (sink.faults sink.before) (sink.faults sink.after)
       → KeepsToTold language words shelf.held sink status

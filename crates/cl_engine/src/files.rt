@@ -5,7 +5,7 @@ ghost use Rattle.cl_engine.specs.Files.{file_count};
 pub const FILE_LIMIT: u64 = 16_777_216;
 
 /// The files that a command names behind its verb.
-#[derive(Clone, Copy, Debug, PartialEq, Eq)]
+#[derive(Clone, Copy, PartialEq, Eq)]
 pub enum Files {
     /// No file.
     Nothing,

@@ -6,7 +6,7 @@ use cl_io::Words;
 use cl_text::read_decimal;
 
 /// The least and the greatest value of a number among the words.
-#[derive(Clone, Copy, Debug, PartialEq, Eq)]
+#[derive(Clone, Copy, PartialEq, Eq)]
 pub struct Bounds {
     pub least: u64,
     pub most: u64,

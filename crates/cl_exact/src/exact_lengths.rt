@@ -6,7 +6,7 @@ use std::marker::Model;
 
 /// The exact lengths of a chain, or of a part of one, each with its witness. Only `exact`,
 /// `exact_of_groups` and `copy` make one.
-#[derive(Debug, PartialEq, Eq, Drop)]
+#[derive(PartialEq, Eq, Drop)]
 pub struct ExactLengths {
     pub(crate) reaction: Witness,
     pub(crate) age: Witness,

@@ -6,7 +6,7 @@ pub const MOST_FIRST_JOBS: u64 = 1_000_000;
 
 /// The error for a chain, or a part of one, whose hyperperiod exceeds the limit. It carries the
 /// limit in ticks.
-#[derive(Clone, Copy, Debug, PartialEq, Eq)]
+#[derive(Clone, Copy, PartialEq, Eq)]
 pub struct HyperLimit {
     pub limit: u64,
 }

@@ -4,7 +4,7 @@ ghost use Rattle.std.specs.Prelude.{◌≡◌};
 use crate::job_numbers::JobNumbers;
 
 /// A job chain over the ideal moments that attains an exact length.
-#[derive(Debug, PartialEq, Eq, Drop)]
+#[derive(PartialEq, Eq, Drop)]
 pub struct Witness {
     /// How long it lasts, in ticks.
     pub length: u64,

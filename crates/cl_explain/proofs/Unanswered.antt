@@ -3,7 +3,7 @@ use Rattle.std.proofs.Common.{◌≡◌, ℕ, zero, suc, ◌<◌, ◌≤◌, Opt
 use Rattle.std.specs.Option.{option_map}
 use Rattle.std.proofs.lemmas.Bool.{cases_lt}
 use Rattle.cl_runs.specs.{TaskTiming.{System, timing_at, IsSound}, ExecutionTimes.greatest_execution}
-use Rattle.cl_resp.specs.{Asked.{Asked, least_response, AnswersWithin, IsLeastResponse, ComesRound}, ByPhase.{asked_by_phase, response_by_phase}, Response.Response}
+use Rattle.cl_resp.specs.{Asked.{Asked, least_response, AnswersWithin, IsLeastResponse, AskedComesRound}, ByPhase.{asked_by_phase, response_by_phase}, Response.Response}
 
 pub not_some : {X : Type 0} (x : X) → Some x ≡ None → ⊥
 not_some x is = absurd cc
@@ -31,8 +31,8 @@ module _ (asked : Asked) (found : (response : ℕ) → IsLeastResponse asked res
   ]
 
 -- so it is of whole jobs of a task
-module _ (is_found : (asked : Asked) → ComesRound asked → (response : ℕ) → IsLeastResponse asked response → least_response asked ≡ Some response)
-    (comes_round : (system : System) → IsSound system → (task own : ℕ) → task < length system.tasks → ComesRound (asked_by_phase system task own)) where
+module _ (is_found : (asked : Asked) → AskedComesRound asked → (response : ℕ) → IsLeastResponse asked response → least_response asked ≡ Some response)
+    (comes_round : (system : System) → IsSound system → (task own : ℕ) → task < length system.tasks → AskedComesRound (asked_by_phase system task own)) where
   pub unanswered : (system : System) → IsSound system → (task : ℕ) → task < length system.tasks → response_by_phase system task ≡ None
       → (response : ℕ) → 1 ≤ response → response ≤ (timing_at system task).deadline
       → AnswersWithin (asked_by_phase system task (greatest_execution (timing_at system task))) response → ⊥

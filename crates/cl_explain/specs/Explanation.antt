@@ -84,13 +84,13 @@ lines_where_bounded model chain (Late task) = []
 -- ---- tight bounds
 
 -- a group and the arrival of one of its jobs
-unfoldable pub arrival_words : (word : List ℕ) → SystemModel → (chain place : ℕ) → ℤ → List ℕ
-arrival_words word model chain place arrival =
+unfoldable pub walk_arrival_text : (word : List ℕ) → SystemModel → (chain place : ℕ) → ℤ → List ℕ
+walk_arrival_text word model chain place arrival =
     word ++ (chain_at model chain).name ++ codes " " ++ task_of_group model chain place ++ codes " arrival " ++ signed_decimal arrival
 
 -- the line of such
 abbrev pub arrival_line : (word : List ℕ) → SystemModel → (chain place : ℕ) → ℤ → List ℕ
-arrival_line word model chain place arrival = line (arrival_words word model chain place arrival)
+arrival_line word model chain place arrival = line (walk_arrival_text word model chain place arrival)
 
 -- the lines of arrivals of groups from a place on
 abbrev pub arrival_lines : (word : List ℕ) → SystemModel → (chain from : ℕ) → (arrivals : List ℤ) → List ℕ

@@ -11,7 +11,7 @@ use cl_time::NoMemory;
 use std::alloc::Global;
 
 /// A use of a label that an engineer should know of.
-#[derive(Clone, Copy, Debug, PartialEq, Eq)]
+#[derive(Clone, Copy, PartialEq, Eq)]
 pub enum LabelUse {
     /// Some runnable reads it, and none writes it.
     Input,

@@ -8,7 +8,7 @@ ghost use Rattle.cl_bound.specs.Answers.{NoneIsLate};
 ghost use Rattle.cl_phase.specs.TightBounds.{tight_bounds};
 ghost use Rattle.cl_analyse.specs.declared.findings.ChainAnswer.TheVariants as answers;
 ghost use Rattle.cl_tight.specs.{TightAnswers.tight_answers_of, TightTimings.tight_timing, TightFindings.tight_chain_answer_of, Found.AreWindowsOf};
-ghost use Rattle.cl_explain.specs.Explanation.{arrival_words, arrival_line, arrival_lines, walk_lines, tight_line, tight_lines};
+ghost use Rattle.cl_explain.specs.Explanation.{walk_arrival_text, arrival_line, arrival_lines, walk_lines, tight_line, tight_lines};
 
 use crate::groups::put_task_of_group;
 use crate::numbers::put_signed;
@@ -36,7 +36,7 @@ pub fn put_arrival_words(
     requires chain { chain < length model.now.chains }
     requires place { place < length (groups_at model.now chain) }
     ensures { OnOk result
-        (text.new ≡ text.old ++ arrival_words word.now model.now chain place arrival.now) }
+        (text.new ≡ text.old ++ walk_arrival_text word.now model.now chain place arrival.now) }
 {
     text.put(word)?;
     put_chain_name(text, model, chain)?;

@@ -6,17 +6,17 @@ use Rattle.std.proofs.lemmas.List.Elements.{All-map}
 use Rattle.cl_model.specs.{declared.stimulus.StimulusKind.{StimulusKind, TheVariants.{Periodic, Sporadic, Burst}}, Timing.greatest_jitter}
 use Rattle.cl_runs.specs.{declared.job.Job.Job, Pattern.{IsPattern, first_least, first_greatest, least_gap, greatest_gap}, Arrivals.{IsArrival, AreArrivalsFrom, FollowPattern}, TaskTiming.TimeRange, Table.LiesIn}
 use Rattle.cl_runs.proofs.PatternFacts.{gap_positive}
-use Rattle.cl_gen.specs.Drawn.{arrival_words, first_arrival, gap_after, release_delay, drawn_times, job_word, drawn_arrival, drawn_job, drawn_count, drawn_jobs}
+use Rattle.cl_gen.specs.Drawn.{arrival_words, first_drawn_arrival, gap_after, release_delay, drawn_times, job_word, drawn_arrival, drawn_job, drawn_count, drawn_jobs}
 use Rattle.cl_gen.proofs.{RisingArrivals.{all_below, end_reached}, Words.{draw_least, draw_greatest}}
 
 -- ---- what a word makes of a job
 
-first_early : (pattern : StimulusKind) → IsPattern pattern → (word : ℕ) → first_least pattern ≤ first_arrival pattern word
+first_early : (pattern : StimulusKind) → IsPattern pattern → (word : ℕ) → first_least pattern ≤ first_drawn_arrival pattern word
 first_early (Periodic period offset jitter) well word = omega arith
 first_early (Sporadic least greatest) well word = omega arith
 first_early (Burst period offset count distance) well word = omega arith
 
-first_late : (pattern : StimulusKind) → IsPattern pattern → (word : ℕ) → first_arrival pattern word ≤ first_greatest pattern
+first_late : (pattern : StimulusKind) → IsPattern pattern → (word : ℕ) → first_drawn_arrival pattern word ≤ first_greatest pattern
 first_late (Periodic period offset jitter) well word = omega arith
 first_late (Sporadic least greatest) well word = draw_greatest 0 (greatest - 1) word (omega arith)
 first_late (Burst period offset count distance) well word = omega arith

@@ -7,7 +7,7 @@ use Rattle.std.proofs.lemmas.List.FromFn.{map-range_with_len_more}
 use Rattle.cl_model.specs.{declared.{limits.TheConstants.{MOST_TICKS, MOST_RUNNABLES}, stimulus.StimulusKind.{StimulusKind, TheVariants.{Periodic, Sporadic, Burst}}}, Ranges.IsKindInRange, Timing.{greatest_jitter, greatest_distance}}
 use Rattle.cl_runs.specs.{declared.job.Job.Job, Pattern.IsPattern, TaskTiming.TimeRange}
 use Rattle.cl_runs.proofs.PatternFacts.{gap_positive, greatest_within}
-use Rattle.cl_gen.specs.{declared.limits.TheConstants.MOST_RUN_TICKS, Drawn.{arrival_words, release_words, job_draws, first_arrival, gap_after, release_delay, job_word, drawn_arrival, drawn_job, drawn_count, drawn_jobs, word_after}, Inner.Arriving.job_arriving}
+use Rattle.cl_gen.specs.{declared.limits.TheConstants.MOST_RUN_TICKS, Drawn.{arrival_words, release_words, job_draws, first_drawn_arrival, gap_after, release_delay, job_word, drawn_arrival, drawn_job, drawn_count, drawn_jobs, word_after}, Inner.Arriving.job_arriving}
 use Rattle.cl_gen.proofs.{DrawnJobs.{delay_within, gap_least, gap_greatest, arrivals_rise}, RisingArrivals.{number_below, below_is}}
 
 -- ---- numbers that fit
@@ -51,7 +51,7 @@ pub record AreDrawnSoFar (word : ℕ → ℕ) (from : ℕ) (pattern : StimulusKi
   pub below : (k : ℕ) → k < length jobs → drawn_arrival word from pattern ranges k < ticks
 
 module _ (word : ℕ → ℕ) (from : ℕ) (pattern : StimulusKind) (ranges : List TimeRange) (ticks : ℕ) where
-  pub none_yet : (jobs : List Job) (arrival : ℕ) → jobs ≡ [] → arrival ≡ first_arrival pattern (word from)
+  pub none_yet : (jobs : List Job) (arrival : ℕ) → jobs ≡ [] → arrival ≡ first_drawn_arrival pattern (word from)
       → AreDrawnSoFar word from pattern ranges ticks jobs arrival
   unfolding drawn_arrival
   none_yet jobs arrival none first = subst (λ list. AreDrawnSoFar word from pattern ranges ticks list arrival) (sym none)

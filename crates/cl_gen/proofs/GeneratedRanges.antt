@@ -9,7 +9,7 @@ use Rattle.std.proofs.lemmas.List.Elements.{All-cons}
 use Rattle.std.proofs.lemmas.List.FromFn.{get_or-map-range_with_len, length-map-range_with_len}
 use Rattle.cl_model.specs.{declared.{limits.TheConstants.{MOST_TASKS, MOST_REQUIRED}, chain.RequirementDef.RequirementDef, model.{CoreDef.CoreDef, LabelDef.LabelDef}, stimulus.StimulusDef.StimulusDef}, AreNamed.{IsRunnableNamed, IsTaskNamed, IsChainNamed, IsRequirementNamed, AreNamed}}
 use Rattle.cl_model.specs.{Name.{is_name_byte, IsName}, Ranges.{IsKindInRange, IsRunnableInRange, IsTaskInRange, IsChainInRange, IsInRange}}
-use Rattle.cl_gen.specs.{Words.draw, Generated.{numbered, label_name, runnable_name, labels_read, periods, stimulus_number, generated_core, generated_stimulus, generated_label, generated_runnable, generated_task, generated_chain, model_of_words}}
+use Rattle.cl_gen.specs.{Words.draw, Generated.{numbered, label_name, runnable_name, labels_read, periods, drawn_stimulus, generated_core, generated_stimulus, generated_label, generated_runnable, generated_task, generated_chain, model_of_words}}
 use Rattle.cl_gen.proofs.{GeneratedNames.spelled_name, GeneratedSections.{few_cores, period_least, period_greatest}, GeneratedTasks.stimulus_below, Words.{draw_least, draw_greatest}}
 
 -- what holds of each number in a row holds of each element that is mapped over them
@@ -29,11 +29,11 @@ all_one P x holds = All-cons P x [] holds (all_none P)
 runnable_in_range : (word : ℕ → ℕ) (k : ℕ) → IsRunnableInRange (generated_runnable word k)
 unfolding generated_runnable
 runnable_in_range word k =
-    let period = slice_index periods (stimulus_number word (k / 2)) in
+    let period = slice_index periods (drawn_stimulus word (k / 2)) in
     let first = word (6 * (k / 2) + 2 + 2 * (k % 2)) in
     let second = word (6 * (k / 2) + 2 + 2 * (k % 2) + 1) in
-    let long = period_least (stimulus_number word (k / 2)) (stimulus_below word (k / 2)) in
-    let short = period_greatest (stimulus_number word (k / 2)) (stimulus_below word (k / 2)) in
+    let long = period_least (drawn_stimulus word (k / 2)) (stimulus_below word (k / 2)) in
+    let short = period_greatest (drawn_stimulus word (k / 2)) (stimulus_below word (k / 2)) in
     let some : 1 ≤ draw 1 (period / 32) first = draw_least 1 (period / 32) first in
     let few : draw 1 (period / 32) first ≤ 1000000 = omega (arith, short, long, draw_greatest 1 (period / 32) first (omega (arith, long))) in
     record {
@@ -116,7 +116,7 @@ unfolding generated_task
 task_named word i fits = record {
   name = is_numbered (codes "t") i refl (omega arith) (omega arith);
   core = is_numbered (codes "c") (i / 16) refl (omega arith) (omega arith);
-  stimulus = is_numbered (codes "p") (stimulus_number word i) refl (omega arith) (omega (arith, stimulus_below word i));
+  stimulus = is_numbered (codes "p") (drawn_stimulus word i) refl (omega arith) (omega (arith, stimulus_below word i));
   runnables = All-cons IsRunnableNamed (generated_runnable word (2 * i)) (generated_runnable word (2 * i + 1) ∷ []) (body_named word (2 * i) (omega arith))
       (all_one IsRunnableNamed (generated_runnable word (2 * i + 1)) (body_named word (2 * i + 1) (omega arith)));
 }

@@ -15,13 +15,13 @@ use Rattle.cl_model.specs.ValidTasks.{contest_check, runnable_checks, body_check
 use Rattle.cl_model.specs.declared.place.Part.TheVariants as part
 use Rattle.cl_model.specs.declared.place.Key.TheVariants as key
 use Rattle.cl_model.proofs.NoRefusals.{none_in_order}
-use Rattle.cl_gen.specs.{Words.draw, Generated.{numbered, label_name, labels_read, periods, stimulus_number, generated_runnable, generated_task, model_of_words}}
+use Rattle.cl_gen.specs.{Words.draw, Generated.{numbered, label_name, labels_read, periods, drawn_stimulus, generated_runnable, generated_task, model_of_words}}
 use Rattle.cl_gen.proofs.{ApartNames.numbered_apart, GeneratedParts.{tasks_are, core_names_are, label_names_are, first_runnables, first_labels}, GeneratedSections.{labels_apart_below, period_least, period_greatest, kind_is}, PassingChecks.{not_refused, passed_by, each_mapped, among}}
 use Rattle.cl_gen.proofs.{PassingChecks.{fresh, none_of_mapped, few_let_through}, Words.{draw_least, draw_greatest}}
 
 -- the number of a task's stimulus
-pub stimulus_below : (word : ℕ → ℕ) (i : ℕ) → stimulus_number word i < 9
-unfolding stimulus_number
+pub stimulus_below : (word : ℕ → ℕ) (i : ℕ) → drawn_stimulus word i < 9
+unfolding drawn_stimulus
 stimulus_below word i = omega (arith, draw_greatest 0 8 (word (6 * i)) (omega arith))
 
 -- tasks of one core have one quotient
@@ -39,9 +39,9 @@ module _ (word : ℕ → ℕ) (n : ℕ) (few : n ≤ MOST_TASKS) where
       ∙ ap (tasks_on (generated_task word i).core) (take-map-range_with_len (generated_task word) 0 n i (omega arith))
 
   kind_of_task : (i : ℕ) → kind_named (model_of_words word n) (generated_task word i).stimulus
-      ≡ Some (Periodic (slice_index periods (stimulus_number word i)) 0 0)
+      ≡ Some (Periodic (slice_index periods (drawn_stimulus word i)) 0 0)
   unfolding generated_task
-  kind_of_task i = kind_is word n (stimulus_number word i) (stimulus_below word i)
+  kind_of_task i = kind_is word n (drawn_stimulus word i) (stimulus_below word i)
 
   core_passes : (i : ℕ) → i < n → core_check (core_names (model_of_words word n)) i (generated_task word i) ≡ []
   unfolding generated_task
@@ -74,7 +74,7 @@ module _ (word : ℕ → ℕ) (n : ℕ) (few : n ≤ MOST_TASKS) where
   naming_passes i lt =
       let model = model_of_words word n in
       let task = generated_task word i in
-      let period = slice_index periods (stimulus_number word i) in
+      let period = slice_index periods (drawn_stimulus word i) in
       let kind = kind_named model task.stimulus in
       let earlier = tasks_on task.core (take i model.tasks) in
       let is : kind ≡ Some (Periodic period 0 0) = kind_of_task i in
@@ -91,7 +91,7 @@ module _ (word : ℕ → ℕ) (n : ℕ) (few : n ≤ MOST_TASKS) where
                   ∙ le-ltb period period (omega arith)),
               (
                 not_refused _ M33 (task_key i key.Stimulus) (ap (λ (k : Option StimulusKind). is_some_and k (λ kind. nat_le (deadline_under kind task) (greatest_jitter kind))) is
-                    ∙ lt-leb period 0 (omega (arith, period_least (stimulus_number word i) (stimulus_below word i)))),
+                    ∙ lt-leb period 0 (omega (arith, period_least (drawn_stimulus word i) (stimulus_below word i)))),
                 (room_passes i lt, (refl, tt)),
               ),
             ),
@@ -105,7 +105,7 @@ module _ (word : ℕ → ℕ) (n : ℕ) (few : n ≤ MOST_TASKS) where
 pub times_ordered : (word : ℕ → ℕ) (k : ℕ) → (generated_runnable word k).least ≤ (generated_runnable word k).greatest
 unfolding generated_runnable
 times_ordered word k =
-    let period = slice_index periods (stimulus_number word (k / 2)) in
+    let period = slice_index periods (drawn_stimulus word (k / 2)) in
     let greatest_word = word (6 * (k / 2) + 2 + 2 * (k % 2)) in
     draw_greatest 1 (draw 1 (period / 32) greatest_word) (word (6 * (k / 2) + 2 + 2 * (k % 2) + 1)) (draw_least 1 (period / 32) greatest_word)
 
@@ -200,16 +200,16 @@ module _ (word : ℕ → ℕ) (n : ℕ) (few : n ≤ MOST_TASKS) where
       let model = model_of_words word n in
       let task = generated_task word i in
       let other = generated_task word j in
-      let own = slice_index periods (stimulus_number word i) in
-      let above = slice_index periods (stimulus_number word j) in
+      let own = slice_index periods (drawn_stimulus word i) in
+      let above = slice_index periods (drawn_stimulus word j) in
       and_right _ _
       (ap (λ (k : Option StimulusKind). is_some_and k (λ kind. is_some_and (kind_named model other.stimulus) (spans_too_many (deadline_under kind task)))) (kind_of_task word n few i)
       ∙ ap (λ (k : Option StimulusKind). is_some_and k (spans_too_many (deadline_under (Periodic own 0 0) task))) (kind_of_task word n few j)
       ∙ le-ltb (MOST_DISTANCES * above) _ (omega (
         arith,
         deadline_is i own,
-        period_greatest (stimulus_number word i) (stimulus_below word i),
-        period_least (stimulus_number word j) (stimulus_below word j),
+        period_greatest (drawn_stimulus word i) (stimulus_below word i),
+        period_least (drawn_stimulus word j) (stimulus_below word j),
       )))
 
   deadline_passes : (i : ℕ) → i < n → deadline_check (model_of_words word n) i (generated_task word i) ≡ []

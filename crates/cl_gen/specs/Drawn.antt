@@ -30,10 +30,10 @@ job_draws pattern ranges = arrival_words pattern + release_words pattern + lengt
 -- ---- what a word makes of a job, where one is taken
 
 -- when the first job arrives
-abbrev pub first_arrival : StimulusKind → (word : ℕ) → ℕ
-first_arrival (Periodic period offset jitter) word = offset
-first_arrival (Sporadic least greatest) word = draw 0 (greatest - 1) word
-first_arrival (Burst period offset count distance) word = offset
+abbrev pub first_drawn_arrival : StimulusKind → (word : ℕ) → ℕ
+first_drawn_arrival (Periodic period offset jitter) word = offset
+first_drawn_arrival (Sporadic least greatest) word = draw 0 (greatest - 1) word
+first_drawn_arrival (Burst period offset count distance) word = offset
 
 -- how much later than job k the next one arrives
 abbrev pub gap_after : StimulusKind → (k word : ℕ) → ℕ
@@ -60,7 +60,7 @@ job_word from pattern ranges k = from + k * job_draws pattern ranges
 
 -- when job k arrives
 unfoldable pub drawn_arrival : (word : ℕ → ℕ) → (from : ℕ) → StimulusKind → List TimeRange → (k : ℕ) → ℕ
-drawn_arrival word from pattern ranges zero = first_arrival pattern (word from)
+drawn_arrival word from pattern ranges zero = first_drawn_arrival pattern (word from)
 drawn_arrival word from pattern ranges (suc k) =
     drawn_arrival word from pattern ranges k + gap_after pattern k (word (job_word from pattern ranges (suc k)))
 

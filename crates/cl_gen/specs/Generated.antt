@@ -33,8 +33,8 @@ unfoldable pub generated_stimulus : (e : ℕ) → StimulusDef
 generated_stimulus e = record { name = numbered (codes "p") e; kind = Periodic (slice_index periods e) 0 0 }
 
 -- the number of the stimulus of task i
-unfoldable pub stimulus_number : (word : ℕ → ℕ) → (i : ℕ) → ℕ
-stimulus_number word i = draw 0 8 (word (6 * i))
+unfoldable pub drawn_stimulus : (word : ℕ → ℕ) → (i : ℕ) → ℕ
+drawn_stimulus word i = draw 0 8 (word (6 * i))
 
 -- ---- runnables
 
@@ -60,7 +60,7 @@ runnable_with period greatest_word least_word k =
 unfoldable pub generated_runnable : (word : ℕ → ℕ) → (k : ℕ) → RunnableDef
 generated_runnable word k =
     let n = 6 * (k / 2) + 2 + 2 * (k % 2) in
-    runnable_with (slice_index periods (stimulus_number word (k / 2))) (word n) (word (n + 1)) k
+    runnable_with (slice_index periods (drawn_stimulus word (k / 2))) (word n) (word (n + 1)) k
 
 -- ---- tasks
 
@@ -72,7 +72,7 @@ access_of (suc (suc n)) = Timed
 -- task i: a core has sixteen tasks, and those of shorter periods have higher priorities
 unfoldable pub generated_task : (word : ℕ → ℕ) → (i : ℕ) → TaskDef
 generated_task word i =
-    let e = stimulus_number word i in
+    let e = drawn_stimulus word i in
     record {
       name = numbered (codes "t") i;
       core = numbered (codes "c") (i / 16);

@@ -2,7 +2,7 @@
 ghost use Rattle.std.specs.Prelude.{◌≡◌, ◌+◌, ◌<◌, ◌≤◌, ◌^◌, length, map, All, IfOk, OnOk};
 ghost use Rattle.cl_model.specs.{declared.task.RunnableDef.RunnableDef, Ranges.{IsKindInRange, IsRunnableInRange}, Timing.IsKindOrdered};
 ghost use Rattle.cl_runs.specs.{TaskTiming.timing_at, SystemOf.{range_of, system_of}};
-ghost use Rattle.cl_gen.specs.{Words.word_of, Drawn.{arrival_words, release_words, first_arrival, gap_after, release_delay, drawn_times, drawn_jobs, word_after, drawn_tasks}, Inner.Arriving.job_arriving};
+ghost use Rattle.cl_gen.specs.{Words.word_of, Drawn.{arrival_words, release_words, first_drawn_arrival, gap_after, release_delay, drawn_times, drawn_jobs, word_after, drawn_tasks}, Inner.Arriving.job_arriving};
 
 use crate::draws::Draws;
 use crate::limits::MOST_RUN_TICKS;
@@ -15,7 +15,7 @@ use std::alloc::Global;
 fn first_arrival(draws: &mut Draws, pattern: StimulusKind) -> u64
     requires range { IsKindInRange pattern }
     requires few { draws.old.words < 2 ^ 63 }
-    ensures drawn { result ≡ first_arrival pattern (word_of draws.old.seed draws.old.words) }
+    ensures drawn { result ≡ first_drawn_arrival pattern (word_of draws.old.seed draws.old.words) }
     ensures taken { draws.new ≡ record draws.old { words = draws.old.words + arrival_words pattern } }
 {
     match pattern {

@@ -3,7 +3,7 @@ ghost use Rattle.std.specs.Prelude.{◌≡◌, ◌+◌, ◌*◌, ◌/◌, ◌%�
 ghost use Rattle.std.specs.Int.{div_ceil};
 ghost use Rattle.std.specs.List.{range_with_len};
 ghost use Rattle.cl_model.specs.{AreNamed.AreNamed, Validity.IsValid};
-ghost use Rattle.cl_gen.specs.{Words.word_of, Generated.{runnable_name, label_name, access_of, generated_core, generated_stimulus, generated_label, generated_runnable, generated_task, generated_chain, generated, runnable_with, stimulus_number, periods}};
+ghost use Rattle.cl_gen.specs.{Words.word_of, Generated.{runnable_name, label_name, access_of, generated_core, generated_stimulus, generated_label, generated_runnable, generated_task, generated_chain, generated, runnable_with, drawn_stimulus, periods}};
 
 use crate::draws::Draws;
 use crate::names::{label_name, labels_read, labels_written, numbered, runnable_name};
@@ -203,7 +203,7 @@ fn draw_runnables(
     requires short { period ≤ 2 ^ 32 }
     requires long { 32 ≤ period }
     requires next { draws.old.words ≡ 6 * task + 2 }
-    requires own { period ≡ slice_index periods (stimulus_number (word_of draws.old.seed) task) }
+    requires own { period ≡ slice_index periods (drawn_stimulus (word_of draws.old.seed) task) }
     ensures runnables { IfOk result (λ runnables. runnables
         ≡ generated_runnable (word_of draws.old.seed) (2 * task) ∷ generated_runnable (word_of draws.old.seed) (2 * task + 1) ∷ []) }
     ensures taken { OnOk result (draws.new ≡ record draws.old { words = 6 * task + 6 }) }

@@ -13,7 +13,7 @@ use cl_time::NoMemory;
 use std::alloc::Global;
 
 /// Why no job table is drawn.
-#[derive(Clone, Copy, Debug, PartialEq, Eq)]
+#[derive(Clone, Copy, PartialEq, Eq)]
 pub enum DrawFault {
     /// `count` executions of runnables are counted, more than [`MOST_EXECUTIONS`].
     SimLimit { count: u64 },

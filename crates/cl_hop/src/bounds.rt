@@ -6,7 +6,7 @@ use std::marker::Model;
 
 /// Bounds on the reaction, the age and the reduced age of the complete job chains of a chain, or of
 /// a part of one, and on its delay, in ticks.
-#[derive(Clone, Copy, Debug, PartialEq, Eq)]
+#[derive(Clone, Copy, PartialEq, Eq)]
 pub struct Bounds {
     reaction: u64,
     age: u64,

@@ -7,7 +7,7 @@ use Rattle.std.proofs.lemmas.List.{get_or_append_left}
 use Rattle.std.proofs.lemmas.List.Elements.{All-append, All-nil, All-cons}
 use Rattle.std.proofs.Math.Seq.{get_or-append_seam}
 use Rattle.cl_model.specs.declared.model.SystemModel.{SystemModel}
-use Rattle.cl_incr.specs.{Changed.{AsksForChanges}, Inner.Asked.{AsksBelow, AsksOne, AsksTasks, AsksChains}}
+use Rattle.cl_incr.specs.{Changed.AsksForChanges, Inner.Asked.{AsksBelow, AsksOne, AsksTasks, AsksChains}}
 
 -- ---- a list with one more number
 

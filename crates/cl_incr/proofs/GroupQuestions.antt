@@ -10,7 +10,7 @@ use Rattle.cl_hop.specs.{Ends.{Ends, ends_of, lags_from, lags}, Hops.{group_timi
 use Rattle.cl_bound.specs.{Answers.{answers_of, answer_at, response_in}, Bounds.{settled_timing, settled_timings, bounds_of}}
 use Rattle.cl_bound.proofs.SameEnds.{same_bounds as same_bounds_of}
 use Rattle.cl_exact.specs.Rhythms.{Rhythm, rhythms}
-use Rattle.cl_incr.specs.{declared.question.{GroupQuestion.GroupQuestion, HopLine.{HopLine, TheVariants.{SameTask, Saving, Plain}}}, Questions.{group_question, hop_line, hop_lines_from, hop_lines}}
+use Rattle.cl_incr.specs.{declared.question.{GroupQuestion.GroupQuestion, HopLine.{HopLine, TheVariants.{SameTask, Saving, Plain}}}, Questions.{group_question, hop_bounded_by, hop_lines_from, hop_lines}}
 
 -- the question of a group of a system
 abbrev pub asked : System → Group → GroupQuestion
@@ -100,10 +100,10 @@ lag_in : HopLine → (writer reader : GroupQuestion) → ℤ
 lag_in line writer reader = lag_by line (greatest_jitter writer.pattern) (ends_in writer).write (ends_in reader).read
 
 lag_is : (system : System) (writer reader : Group) → lag (settled_timing system writer) (settled_timing system reader)
-    ≡ lag_in (hop_line system writer reader) (asked system writer) (asked system reader)
+    ≡ lag_in (hop_bounded_by system writer reader) (asked system writer) (asked system reader)
 unfolding group_timing group_question lag_in
 lag_is system writer reader =
-    let line = hop_line system writer reader in
+    let line = hop_bounded_by system writer reader in
     let jitter = greatest_jitter (timing_at system writer.task).pattern in
     lag_is_by (writer.task == reader.task) (saves (settled_timing system writer) (settled_timing system reader))
     jitter (settled_timing system writer).write (settled_timing system reader).read
@@ -111,13 +111,13 @@ lag_is system writer reader =
     ∙ ap (λ (ends : Ends). lag_by line jitter (ends_in (asked system writer)).write ends.read) (ends_are system reader)
 
 module _ (one other : System) where
-  same_lag : (w r v s : Group) → asked one w ≡ asked other v → asked one r ≡ asked other s → hop_line one w r ≡ hop_line other v s
+  same_lag : (w r v s : Group) → asked one w ≡ asked other v → asked one r ≡ asked other s → hop_bounded_by one w r ≡ hop_bounded_by other v s
       → lag (settled_timing one w) (settled_timing one r) ≡ lag (settled_timing other v) (settled_timing other s)
   same_lag w r v s writers readers lines =
       lag_is one w r
       ∙ ap (λ line. lag_in line (asked one w) (asked one r)) lines
-      ∙ ap (λ writer. lag_in (hop_line other v s) writer (asked one r)) writers
-      ∙ ap (λ reader. lag_in (hop_line other v s) (asked other v) reader) readers
+      ∙ ap (λ writer. lag_in (hop_bounded_by other v s) writer (asked one r)) writers
+      ∙ ap (λ reader. lag_in (hop_bounded_by other v s) (asked other v) reader) readers
       ∙ sym (lag_is other v s)
 
   same_lags_from : (x y : Group) (xs ys : List Group) → asked one x ≡ asked other y → map (asked one) xs ≡ map (asked other) ys
@@ -128,7 +128,7 @@ module _ (one other : System) where
   same_lags_from x y (r ∷ xs) [] first rest lines = absurd cc
   same_lags_from x y (r ∷ xs) (s ∷ ys) first rest lines =
       let next : asked one r ≡ asked other s = cc in
-      let line : hop_line one x r ≡ hop_line other y s = cc in
+      let line : hop_bounded_by one x r ≡ hop_bounded_by other y s = cc in
       let here = same_lag x r y s first next line in
       let later_questions : map (asked one) xs ≡ map (asked other) ys = cc in
       let later_lines : hop_lines_from one r xs ≡ hop_lines_from other s ys = cc in

@@ -4,8 +4,7 @@ use Rattle.std.specs.Prelude.{All, set}
 use Rattle.std.proofs.lemmas.Bool.Decides.{eqb_tells}
 use Rattle.std.proofs.lemmas.List.{length-set, get_or-map, get_or-set_same, get_or-set_other}
 use Rattle.std.proofs.lemmas.List.Elements.{All-head, All-tail, All-push}
-use Rattle.cl_model.specs.declared.model.SystemModel.{SystemModel}
-use Rattle.cl_runs.specs.Requirements.{no_requirement, requirement_at}
+use Rattle.cl_model.specs.{declared.model.SystemModel.SystemModel, ByNumber.{no_requirement, requirement_at}}
 use Rattle.cl_analyse.specs.{declared.findings.{ChainAnswer.ChainAnswer, ExactAnswer.{ExactAnswer, TheVariants.ChainLate}, Verdict.TheVariants.Unshown}, ChainAnswers.{exact_answer_at, AreExactAnswers}, Verdicts.{verdict_at, verdict_of, verdicts_of}}
 use Rattle.cl_incr.specs.{declared.put.FoundExact.FoundExact, Inner.News.{chain_before, put_all, IsExactOf, AreMoved, IsNoted, AreNoted}}
 

@@ -12,7 +12,7 @@ use Rattle.cl_hop.specs.{Bounds.Lengths, Hops.{group_timing, saves}}
 use Rattle.cl_bound.specs.{declared.answer.TaskAnswer.TaskAnswer, Answers.{answers_of, answer_at, is_late, response_in, NoneIsLate}, Bounds.{settled_timing, bounds_of}}
 use Rattle.cl_analyse.specs.{declared.findings.ChainAnswer.TheVariants.Bounds, ChainAnswers.{first_late, chain_answer, chain_answer_of}}
 use Rattle.cl_analyse.proofs.FirstLate.{settled_groups, none_late}
-use Rattle.cl_incr.specs.{declared.question.{GroupQuestion.GroupQuestion, HopLine.TheVariants.{SameTask, Saving, Plain}}, Questions.{group_question, hop_line, hop_lines, chain_question}, Inner.{Kept.AreBothAsked, News.HasBounds, Standing.{StaysGroup, StayGroups}}}
+use Rattle.cl_incr.specs.{declared.question.{GroupQuestion.GroupQuestion, HopLine.TheVariants.{SameTask, Saving, Plain}}, Questions.{group_question, hop_bounded_by, hop_lines, chain_question}, Inner.{Kept.AreBothAsked, News.HasBounds, Standing.{StaysGroup, StayGroups}}}
 use Rattle.cl_incr.proofs.{GroupQuestions.{asked, AskTheSame}, SameQuestions.{same_maps, same_hops, both_asked}}
 
 -- ---- groups and hops
@@ -73,7 +73,7 @@ module _ (old new : SystemModel) (old_valid : IsValid old) (new_valid : IsValid 
         (λ same. one_timed old old_valid writer.task reader.task from.was_known to.was_known
         (from.stands.timing ∙ ap (timing_at (system_of new)) same ∙ sym to.stands.timing))
 
-    line_same : hop_line (system_of old) writer reader ≡ hop_line (system_of new) writes reads
+    line_same : hop_bounded_by (system_of old) writer reader ≡ hop_bounded_by (system_of new) writes reads
     line_same =
         ap (λ (b : Bool). cond b SameTask (cond (saves (settled_timing (system_of old) writer) (settled_timing (system_of old) reader)) Saving Plain)) apart_same
         ∙ ap (λ (b : Bool). cond (eqb writes.task reads.task) SameTask (cond b Saving Plain)) saves_same

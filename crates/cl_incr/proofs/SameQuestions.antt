@@ -11,7 +11,7 @@ use Rattle.cl_comm.specs.Windows.{spot_at}
 use Rattle.cl_hop.specs.Hops.{group_timing, saves}
 use Rattle.cl_bound.specs.{declared.answer.TaskAnswer.TaskAnswer, Answers.{answers_of, answer_at, response_in}, Bounds.settled_timing}
 use Rattle.cl_analyse.specs.ChainAnswers.{first_late}
-use Rattle.cl_incr.specs.{declared.question.{GroupQuestion.GroupQuestion, HopLine.{HopLine, TheVariants.Plain}}, Questions.{group_question, hop_line, hop_lines_from, hop_lines, ChainQuestion, question_of_groups, unless_late, chain_question}, Inner.Kept.AreBothAsked}
+use Rattle.cl_incr.specs.{declared.question.{GroupQuestion.GroupQuestion, HopLine.{HopLine, TheVariants.Plain}}, Questions.{group_question, hop_bounded_by, hop_lines_from, hop_lines, ChainQuestion, question_of_groups, unless_late, chain_question}, Inner.Kept.AreBothAsked}
 
 -- ---- a group and a hop of a model
 
@@ -189,7 +189,7 @@ module _ (system : System) where
   count_from writer (reader ∷ groups) = ap suc (count_from reader groups)
 
   at_from : (writer : Group) (groups : List Group) (k : ℕ) (d : HopLine) → k < length groups
-      → get_or (hop_lines_from system writer groups) k d ≡ hop_line system (group_at (writer ∷ groups) k) (group_at groups k)
+      → get_or (hop_lines_from system writer groups) k d ≡ hop_bounded_by system (group_at (writer ∷ groups) k) (group_at groups k)
   at_from writer [] k d within = absurd (omega (arith, within))
   at_from writer (reader ∷ groups) zero d within = refl
   at_from writer (reader ∷ groups) (suc k) d within = at_from reader groups k d (omega (arith, within))
@@ -199,13 +199,13 @@ module _ (system : System) where
   hops_count (first ∷ groups) = omega (arith, count_from first groups)
 
   hops_at : (groups : List Group) (k : ℕ) (d : HopLine) → k + 1 < length groups
-      → get_or (hop_lines system groups) k d ≡ hop_line system (group_at groups k) (group_at groups (k + 1))
+      → get_or (hop_lines system groups) k d ≡ hop_bounded_by system (group_at groups k) (group_at groups (k + 1))
   hops_at [] k d within = absurd (omega (arith, within))
   hops_at (first ∷ groups) k d within = rw add-one (at_from first groups k d (omega (arith, within)))
 
 module _ (one other : System) (groups others : List Group) (count : length groups ≡ length others) where
   abbrev AtEach : ℕ → Type 0
-  AtEach k = hop_line one (group_at groups k) (group_at groups (k + 1)) ≡ hop_line other (group_at others k) (group_at others (k + 1))
+  AtEach k = hop_bounded_by one (group_at groups k) (group_at groups (k + 1)) ≡ hop_bounded_by other (group_at others k) (group_at others (k + 1))
 
   pub same_hops : ((k : ℕ) → k + 1 < length groups → AtEach k) → hop_lines one groups ≡ hop_lines other others
   same_hops each = ext_get_or Plain (hop_lines one groups) (hop_lines other others) (omega (arith, hops_count one groups, hops_count other others, count))
@@ -218,12 +218,12 @@ module _ (one other : System) (groups others : List Group) (count : length group
 
   -- by the place of the reader
   abbrev Before : ℕ → Type 0
-  Before place = hop_line one (group_at groups (place - 1)) (group_at groups place) ≡ hop_line other (group_at others (place - 1)) (group_at others place)
+  Before place = hop_bounded_by one (group_at groups (place - 1)) (group_at groups place) ≡ hop_bounded_by other (group_at others (place - 1)) (group_at others place)
 
   pub same_before : hop_lines one groups ≡ hop_lines other others → (place : ℕ) → 1 ≤ place → place < length groups → Before place
   same_before same place some within =
       let next : place - 1 + 1 ≡ place = omega (arith, some) in
-      subst (λ n. hop_line one (group_at groups (place - 1)) (group_at groups n) ≡ hop_line other (group_at others (place - 1)) (group_at others n)) next
+      subst (λ n. hop_bounded_by one (group_at groups (place - 1)) (group_at groups n) ≡ hop_bounded_by other (group_at others (place - 1)) (group_at others n)) next
       (same_hops_at same (place - 1) (omega (arith, some, within)))
 
   -- one more
@@ -234,6 +234,6 @@ module _ (one other : System) (groups others : List Group) (count : length group
         | false ↦ λ is.
             let writer : place - 1 ≡ k = omega (arith, within, ltb-false (k + 1) place is) in
             let reader : place ≡ k + 1 = omega (arith, within, ltb-false (k + 1) place is) in
-            subst (λ n. hop_line one (group_at groups k) (group_at groups n) ≡ hop_line other (group_at others k) (group_at others n)) reader
-            (subst (λ n. hop_line one (group_at groups n) (group_at groups place) ≡ hop_line other (group_at others n) (group_at others place)) writer here)
+            subst (λ n. hop_bounded_by one (group_at groups k) (group_at groups n) ≡ hop_bounded_by other (group_at others k) (group_at others n)) reader
+            (subst (λ n. hop_bounded_by one (group_at groups n) (group_at groups place) ≡ hop_bounded_by other (group_at others n) (group_at others place)) writer here)
       ] refl

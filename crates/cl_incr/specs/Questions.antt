@@ -29,8 +29,8 @@ group_question system answers group =
 -- ---- hops
 
 -- how a hop from a writer to a reader is bounded: within one task, with the writer's time saved, or plainly
-abbrev pub hop_line : System → (writer reader : Group) → HopLine
-hop_line system writer reader =
+abbrev pub hop_bounded_by : System → (writer reader : Group) → HopLine
+hop_bounded_by system writer reader =
     if writer.task == reader.task then SameTask
     else if saves (settled_timing system writer) (settled_timing system reader) then Saving
     else Plain
@@ -38,7 +38,7 @@ hop_line system writer reader =
 -- the lines of the hops from a group over those after it, first to last
 abbrev pub hop_lines_from : System → Group → List Group → List HopLine
 hop_lines_from system writer [] = []
-hop_lines_from system writer (reader ∷ groups) = hop_line system writer reader ∷ hop_lines_from system reader groups
+hop_lines_from system writer (reader ∷ groups) = hop_bounded_by system writer reader ∷ hop_lines_from system reader groups
 
 -- the lines of the hops between the groups of a chain, first to last
 abbrev pub hop_lines : System → List Group → List HopLine

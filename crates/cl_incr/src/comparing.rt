@@ -5,7 +5,7 @@ ghost use Rattle.cl_model.specs.Groups.{group_at, groups_at, IsGroupOf};
 ghost use Rattle.cl_runs.specs.SystemOf.{system_of};
 ghost use Rattle.cl_hop.specs.Hops.{saves};
 ghost use Rattle.cl_bound.specs.{Answers.{answers_of, answer_at, response_in}, Bounds.settled_timing};
-ghost use Rattle.cl_incr.specs.{Questions.{group_question, hop_line, hop_lines, chain_question}, Inner.Kept.AreBothAsked};
+ghost use Rattle.cl_incr.specs.{Questions.{group_question, hop_bounded_by, hop_lines, chain_question}, Inner.Kept.AreBothAsked};
 
 use crate::question::{GroupQuestion, HopLine};
 use cl_analyse::first_late;
@@ -124,7 +124,7 @@ fn saves(model: &ValidModel, writer: Group, reader: Group) -> bool
 fn hop_line(model: &ValidModel, writer: Group, reader: Group) -> HopLine
     requires writer { IsGroupOf model.now writer }
     requires reader { IsGroupOf model.now reader }
-    ensures { result ≡ hop_line (system_of model.now) writer reader }
+    ensures { result ≡ hop_bounded_by (system_of model.now) writer reader }
 {
     if writer.task == reader.task {
         HopLine::SameTask
@@ -141,7 +141,7 @@ fn hop_line_to(model: &ValidModel, chain: u32, place: u32) -> HopLine
     requires some { 0 < place }
     requires place { place < length (groups_at model.now chain) }
     ensures { let groups = groups_at model.now chain in
-        result ≡ hop_line (system_of model.now) (group_at groups (place - 1)) (group_at groups place) }
+        result ≡ hop_bounded_by (system_of model.now) (group_at groups (place - 1)) (group_at groups place) }
 {
     hop_line(
         model,

@@ -3,7 +3,7 @@
 use cl_model::{AccessKind, StimulusKind};
 
 /// What the lengths of a chain depend on in one of its groups. Times are in ticks.
-#[derive(Clone, Copy, Debug, PartialEq, Eq)]
+#[derive(Clone, Copy, PartialEq, Eq)]
 pub struct GroupQuestion {
     /// The pattern by which the jobs of its task arrive.
     pub pattern: StimulusKind,
@@ -20,7 +20,7 @@ pub struct GroupQuestion {
 }
 
 /// How a hop between two groups is bounded.
-#[derive(Clone, Copy, Debug, PartialEq, Eq)]
+#[derive(Clone, Copy, PartialEq, Eq)]
 pub enum HopLine {
     /// Both groups are of one task.
     SameTask,

@@ -6,7 +6,7 @@ use std::marker::Model;
 
 /// A sink that takes every piece whole and keeps only how many bytes it took, which is what
 /// contracts see. It never fails and takes no memory.
-#[derive(Debug, Drop)]
+#[derive(Drop)]
 pub struct SureSink {
     taken: u64,
 }

@@ -10,7 +10,7 @@ use cl_model::MOST_TASKS_OF_CORE;
 use cl_stim::{MOST_WIDTH, Phase};
 
 /// A periodic task in phase above another.
-#[derive(Clone, Copy, Debug, PartialEq, Eq)]
+#[derive(Clone, Copy, PartialEq, Eq)]
 pub(crate) struct SureTask {
     /// When its jobs arrive.
     pub(crate) phase: Phase,

@@ -24,13 +24,13 @@ abbrev pub line_found : Version → (list : List ℕ) → (number : ℕ) → Lis
 line_found version list number = line (codes "found " ++ quoted (without_end version (line_of list number)))
 
 -- its first word
-abbrev pub first_word : (line : List ℕ) → List ℕ
-first_word line = unwrap_or (find has_bytes (slice_split is_blank (without_return line))) []
+abbrev pub leading_word : (line : List ℕ) → List ℕ
+leading_word line = unwrap_or (find has_bytes (slice_split is_blank (without_return line))) []
 
 -- how many lines above a line say something, the title among them
 abbrev pub said_above : Version → (list : List ℕ) → (number : ℕ) → ℕ
 said_above One list number = number - 1
-said_above Two list number = count_by (λ line. says (first_word line)) (take (number - 1) (lines list))
+said_above Two list number = count_by (λ line. says (leading_word line)) (take (number - 1) (lines list))
 
 abbrev pub ends_with_return : (line : List ℕ) → Bool
 ends_with_return line = option_map_or (λ byte. byte == 0x0D) (slice_get line (length line - 1)) false
@@ -48,7 +48,7 @@ is_written_word word = (bytes_eq word (codes "report") || bytes_eq word (codes "
 
 abbrev pub is_written_line : Version → (line : List ℕ) → Bool
 is_written_line One line = bytes_eq line (codes "report")
-is_written_line Two line = (length (words_of (without_return line)) == 1) && is_written_word (first_word line)
+is_written_line Two line = (length (words_of (without_return line)) == 1) && is_written_word (leading_word line)
 
 -- the last line of a list of version 1 has no end
 abbrev pub is_unended : Version → (list : List ℕ) → (number : ℕ) → Bool
@@ -66,7 +66,7 @@ wanted_words version list number =
     else if said_above version list number == MOST_EDITS + 1 then codes "wanted at most 4096 edits"
     else if is_unended version list number then codes "mend end the last line with LF"
     else if is_written_line version (line_of list number) then codes "wanted at most 64 lines " ++ written_words version
-    else shape_or_words version (shape_of version (first_word (line_of list number)))
+    else shape_or_words version (shape_of version (leading_word (line_of list number)))
 
 -- ---- the lines
 

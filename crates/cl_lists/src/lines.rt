@@ -2,7 +2,7 @@
 ghost use Rattle.std.specs.Prelude.{◌≡◌, ◌-◌, length, count_by, take, option_map};
 ghost use Rattle.std.specs.List.{find, slice_get, slice_split};
 ghost use Rattle.cl_edit.specs.Said.{lines, without_return, is_blank, has_bytes, words_of, says};
-ghost use Rattle.cl_lists.specs.BadLines.{line_of, without_end, first_word, said_above, ends_with_return, is_unended};
+ghost use Rattle.cl_lists.specs.BadLines.{line_of, without_end, leading_word, said_above, ends_with_return, is_unended};
 
 use cl_edit::Version;
 
@@ -76,7 +76,7 @@ fn find_word(line: &[u8]) -> Option<&[u8]>
 
 /// Returns the first word of a line, or nothing.
 pub(crate) fn first_word(line: &[u8]) -> &[u8]
-    ensures { result.now ≡ first_word line.now }
+    ensures { result.now ≡ leading_word line.now }
 {
     find_word(without_return(line)).unwrap_or(b"")
 }
@@ -106,7 +106,7 @@ fn says(word: &[u8]) -> bool
 
 /// Counts the lines above a line that say something.
 fn spoken_above(list: &[u8], number: usize) -> usize
-    ensures { result ≡ count_by (λ line. says (first_word line)) (take (number - 1) (lines list.now)) }
+    ensures { result ≡ count_by (λ line. says (leading_word line)) (take (number - 1) (lines list.now)) }
 {
     list.split(|byte| *byte == b'\n')
         .take(number.saturating_sub(1))

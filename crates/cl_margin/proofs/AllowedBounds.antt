@@ -2,9 +2,9 @@
 use Rattle.std.proofs.Common.{◌≡◌, ℕ, ◌+◌, ◌<◌, ◌≤◌, inl, inr, Bool, true, false, ◌&&◌, nat_le, List, length, set, sym, ap, ◌∙◌, subst, arith}
 use Rattle.std.proofs.lemmas.Bool.{true≢false, cases_lt, cases_eq, leb-true, le-leb}
 use Rattle.std.proofs.lemmas.List.{length-set, get_or-set_same, get_or-set_other}
-use Rattle.cl_model.specs.declared.{chain.{LengthKind.TheVariants.{Reaction, Age, Reduced}, RequirementDef.RequirementDef, RequirementKind.{RequirementKind, TheVariants.{Length, Delay}}}, model.SystemModel.SystemModel}
+use Rattle.cl_model.specs.{declared.{chain.{LengthKind.TheVariants.{Reaction, Age, Reduced}, RequirementDef.RequirementDef, RequirementKind.{RequirementKind, TheVariants.{Length, Delay}}}, model.SystemModel.SystemModel}, ByNumber.requirement_at}
 use Rattle.cl_model.proofs.ListFacts.{both_pass, both_true}
-use Rattle.cl_runs.specs.Requirements.{requirement_at, required_chain}
+use Rattle.cl_runs.specs.Requirements.{required_chain}
 use Rattle.cl_hop.specs.Bounds.{Lengths}
 use Rattle.cl_analyse.specs.{declared.findings.Verdict.Verdict, Verdicts.{limited_bound, verdict_at, is_met}}
 use Rattle.cl_margin.specs.{declared.allowed.Allowed.Allowed, Inner.Allowing.{any_allowed, with_most, allows, allowed_at, AreAllowed}}

@@ -2,8 +2,7 @@
 use Rattle.std.proofs.Common.{◌≡◌, ℕ, ◌<◌, ◌≤◌, true, false, List, length, refl, sym, ap, ◌∙◌, subst, arith}
 use Rattle.std.specs.Prelude.{nat_le, ◌&&◌}
 use Rattle.std.proofs.lemmas.Bool.{true≢false, false≢true, and_from, le-leb}
-use Rattle.cl_model.specs.{declared.{chain.{LengthKind.TheVariants.{Reaction, Age, Reduced}, RequirementKind.{RequirementKind, TheVariants.{Length, Delay}}}, model.SystemModel.SystemModel}, Ranges.IsInRange, Validity.IsValid}
-use Rattle.cl_runs.specs.Requirements.{no_requirement, requirement_at}
+use Rattle.cl_model.specs.{declared.{chain.{LengthKind.TheVariants.{Reaction, Age, Reduced}, RequirementKind.{RequirementKind, TheVariants.{Length, Delay}}}, model.SystemModel.SystemModel}, Ranges.IsInRange, Validity.IsValid, ByNumber.{no_requirement, requirement_at}}
 use Rattle.cl_hop.specs.Bounds.{Lengths}
 use Rattle.cl_analyse.specs.{declared.findings.ChainAnswer.{ChainAnswer, TheVariants.{Bounds, Late}}, ChainAnswers.chain_answer_at, Verdicts.limited_bound}
 use Rattle.cl_tight.specs.{declared.findings.TightFindings.TightFindings, TightFindings.{tight_chain_answers_of, tight_findings_of}}

@@ -6,8 +6,8 @@ use Rattle.std.proofs.Math.Nat.{lt_of_not-le}
 use Rattle.std.proofs.lemmas.Bool.{false≢true, leb-true}
 use Rattle.std.proofs.lemmas.List.{get_or-map, get_or_past, length-map}
 use Rattle.std.proofs.lemmas.List.FromFn.{length-map-range_with_len}
-use Rattle.cl_model.specs.declared.{chain.{RequirementDef.RequirementDef, RequirementKind.RequirementKind}, model.SystemModel.SystemModel}
-use Rattle.cl_runs.specs.{Requirements.{no_requirement, requirement_at, required_chain}, SystemOf.system_of}
+use Rattle.cl_model.specs.{declared.{chain.{RequirementDef.RequirementDef, RequirementKind.RequirementKind}, model.SystemModel.SystemModel}, ByNumber.{no_requirement, requirement_at}}
+use Rattle.cl_runs.specs.{Requirements.required_chain, SystemOf.system_of}
 use Rattle.cl_runs.proofs.ModelSystem.{count_is}
 use Rattle.cl_hop.specs.Bounds.{Lengths}
 use Rattle.cl_bound.specs.Answers.{answer_at, is_late}

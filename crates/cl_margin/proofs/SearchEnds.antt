@@ -6,8 +6,8 @@ use Rattle.std.proofs.lemmas.Bool.{cases_order}
 use Rattle.std.proofs.lemmas.List.{get_or_default}
 use Rattle.std.proofs.lemmas.List.FromFn.{length-range_with_len, get_or-range_with_len}
 use Rattle.std.proofs.lemmas.List.Sorted.{Contains-permutation, All-permutation}
-use Rattle.cl_model.specs.{declared.model.SystemModel.SystemModel, Ranges.IsInRange, Validity.IsValid}
-use Rattle.cl_runs.specs.Requirements.{requirement_at, required_chain}
+use Rattle.cl_model.specs.{declared.model.SystemModel.SystemModel, Ranges.IsInRange, Validity.IsValid, ByNumber.requirement_at}
+use Rattle.cl_runs.specs.Requirements.{required_chain}
 use Rattle.cl_scale.specs.declared.percent.TheConstants.{MOST_PERCENT}
 use Rattle.cl_margin.specs.{declared.{answer.Breaks.{Breaks, TheVariants.Limit}, searching.Search.Search, whose.Whose.Whose}, Grown.grown, Margins.{KeepsTasks, KeepsMet, BreaksFirst, IsGreatestPercent, IsMargin}, Inner.Searches.{KeepsTask, KeepsChain, IsMarginSearch}}
 use Rattle.cl_margin.specs.Inner.Touched.{IsMostInRange}

@@ -4,9 +4,9 @@ use Rattle.std.proofs.Common.{◌≡◌, ℕ, ◌<◌, ◌≤◌, Bool, true, fa
 use Rattle.std.specs.Prelude.{All}
 use Rattle.std.proofs.lemmas.Bool.{false_from_ne_true, false≢true, true≢false}
 use Rattle.std.proofs.lemmas.List.Folds.{list_any_at}
-use Rattle.cl_model.specs.{declared.{group.Group.Group, model.SystemModel.SystemModel}, Groups.groups_at, Ranges.IsInRange, Validity.IsValid}
+use Rattle.cl_model.specs.{declared.{group.Group.Group, model.SystemModel.SystemModel}, Groups.groups_at, Ranges.IsInRange, Validity.IsValid, ByNumber.requirement_at}
 use Rattle.cl_model.proofs.GroupFacts.{groups_at_are}
-use Rattle.cl_runs.specs.{Requirements.{requirement_at, required_chain}, SystemOf.system_of}
+use Rattle.cl_runs.specs.{Requirements.required_chain, SystemOf.system_of}
 use Rattle.cl_hop.specs.Bounds.{Lengths}
 use Rattle.cl_resp.specs.LesserTimes.{TakesNoMore}
 use Rattle.cl_bound.specs.Answers.{answer_at, is_late}

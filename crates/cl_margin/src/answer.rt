@@ -2,7 +2,7 @@
 use cl_model::List;
 
 /// What breaks first of what is met now.
-#[derive(Clone, Copy, Debug, PartialEq, Eq)]
+#[derive(Clone, Copy, PartialEq, Eq)]
 pub enum Breaks {
     /// The first task in file order that is late then and isn't now.
     Task { task: u32 },
@@ -14,7 +14,7 @@ pub enum Breaks {
 }
 
 /// How far execution times may grow.
-#[derive(Clone, Copy, Debug, PartialEq, Eq)]
+#[derive(Clone, Copy, PartialEq, Eq)]
 pub struct Margin {
     /// The greatest percentage with which all holds that holds now.
     pub percent: u64,
@@ -24,7 +24,7 @@ pub struct Margin {
 }
 
 /// How far the execution times of a model may grow.
-#[derive(Debug, PartialEq, Eq, Drop)]
+#[derive(PartialEq, Eq, Drop)]
 pub struct Margins {
     /// Those of all tasks at once.
     pub all: Margin,

@@ -8,7 +8,7 @@ use cl_model::{MOST_TICKS, RunnableDef, TaskDef, ValidModel};
 use cl_scale::{MOST_PERCENT, scaled_time};
 
 /// Whose greatest execution times grow.
-#[derive(Clone, Copy, Debug, PartialEq, Eq)]
+#[derive(Clone, Copy, PartialEq, Eq)]
 pub enum Whose {
     /// Those of every task.
     EveryTask,

@@ -1,6 +1,6 @@
 //! Chains of runnables linked by labels, and the requirements on them. Times are in ticks.
 ghost use Rattle.std.specs.Prelude.{◌≡◌};
-ghost use Rattle.cl_model.specs.{Kinds.{length_word, requirement_word, is_delay}, Reading.{Checks.meaning_of, Tables.requirement_words}};
+ghost use Rattle.cl_model.specs.{Kinds.{length_word, requirement_word, is_delay}, Reading.{Checks.meaning_of, Tables.requirement_kind_words}};
 
 use crate::copying::TryCopy;
 use crate::list::List;
@@ -58,7 +58,7 @@ impl RequirementKind {
     /// Finds the kind that has this word in files of this version, or `None` exactly where none has
     /// it.
     pub fn of_word(version: u64, word: &[u8]) -> Option<RequirementKind>
-        ensures { result ≡ meaning_of (requirement_words version) word.now }
+        ensures { result ≡ meaning_of (requirement_kind_words version) word.now }
     {
         match word {
             b"reaction" => Some(RequirementKind::Length(LengthKind::Reaction)),

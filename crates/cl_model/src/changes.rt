@@ -10,7 +10,7 @@ use crate::stimulus::StimulusKind;
 use crate::task::AccessKind;
 
 /// The priority that a task, given by its number, gets.
-#[derive(Clone, Copy, Debug, PartialEq, Eq)]
+#[derive(Clone, Copy, PartialEq, Eq)]
 pub struct TaskPriority {
     pub task: u32,
     pub priority: u64,

@@ -4,7 +4,7 @@ ghost use Rattle.cl_model.specs.Groups.{is_inner, group_of_step};
 
 /// A step of a chain: a runnable, given by its task and its index in that task, both counted from
 /// 0.
-#[derive(Clone, Copy, Debug, PartialEq, Eq)]
+#[derive(Clone, Copy, PartialEq, Eq)]
 pub struct Step {
     pub task: u32,
     pub place: u32,
@@ -12,7 +12,7 @@ pub struct Step {
 
 /// A group: steps of a chain that one job executes. It has the number of their task, and the
 /// indices of the first and the last of their runnables in it.
-#[derive(Clone, Copy, Debug, PartialEq, Eq)]
+#[derive(Clone, Copy, PartialEq, Eq)]
 pub struct Group {
     pub task: u32,
     pub first: u32,

@@ -10,7 +10,7 @@ use cl_time::NoMemory;
 use std::alloc::{AllocError, AllocFailed};
 
 /// Why there is no result for a model or an edit of it.
-#[derive(Clone, Copy, Debug, PartialEq, Eq)]
+#[derive(Clone, Copy, PartialEq, Eq)]
 pub enum ModelFault {
     /// The model or the edit is refused: this is the first refusal.
     Refused(Refusal),

@@ -5,7 +5,7 @@ ghost use Rattle.cl_model.specs.Place.{section_place, top, at_item, at_sub, at_k
 use std::fmt;
 
 /// A part of a model file: its top level or one of its sections.
-#[derive(Clone, Copy, Debug, PartialEq, Eq)]
+#[derive(Clone, Copy, PartialEq, Eq)]
 pub enum Part {
     Top,
     Core,
@@ -17,7 +17,7 @@ pub enum Part {
 }
 
 /// A key of a model file.
-#[derive(Clone, Copy, Debug, PartialEq, Eq)]
+#[derive(Clone, Copy, PartialEq, Eq)]
 pub enum Key {
     Format,
     Version,
@@ -50,7 +50,7 @@ pub enum Key {
 
 /// A place in a model file: a part, and in it the entry, the runnable, the key and the member of an
 /// array that are given. Numbers count from 0.
-#[derive(Clone, Copy, Debug, PartialEq, Eq)]
+#[derive(Clone, Copy, PartialEq, Eq)]
 pub struct Place {
     pub part: Part,
     /// The number of the entry in the section.

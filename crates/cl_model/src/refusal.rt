@@ -6,7 +6,7 @@ use crate::place::Place;
 use std::fmt;
 
 /// What is wrong: M1 to M10 with a model file, M20 to M47 with a model, E1 to E3 with an edit.
-#[derive(Clone, Copy, Debug, PartialEq, Eq)]
+#[derive(Clone, Copy, PartialEq, Eq)]
 pub enum Code {
     M1,
     M2,
@@ -52,7 +52,7 @@ pub enum Code {
 }
 
 /// A refusal: what is wrong, and where.
-#[derive(Clone, Copy, Debug, PartialEq, Eq)]
+#[derive(Clone, Copy, PartialEq, Eq)]
 pub struct Refusal {
     pub code: Code,
     pub place: Place,

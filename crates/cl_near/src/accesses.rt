@@ -3,7 +3,7 @@ use cl_time::NoMemory;
 use std::alloc::Global;
 
 /// What a job of a walk does at a moment. Of what is done at one moment, reads come first.
-#[derive(Clone, Copy, Debug, PartialEq, Eq, PartialOrd, Ord)]
+#[derive(Clone, Copy, PartialEq, Eq, PartialOrd, Ord)]
 pub(crate) enum Access {
     /// The job that just misses reads at the earliest.
     Read,
@@ -12,7 +12,7 @@ pub(crate) enum Access {
 }
 
 /// An access of a job on a core.
-#[derive(Clone, Copy, Debug, PartialEq, Eq, PartialOrd, Ord)]
+#[derive(Clone, Copy, PartialEq, Eq, PartialOrd, Ord)]
 pub(crate) struct AccessOfCore {
     pub(crate) core: u32,
     pub(crate) moment: u64,

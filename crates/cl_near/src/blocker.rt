@@ -4,7 +4,7 @@ ghost use Rattle.std.specs.Prelude.{◌<◌, length};
 use cl_model::ValidModel;
 
 /// A whole runnable that may hold the core of a task of higher priority.
-#[derive(Clone, Copy, Debug, PartialEq, Eq)]
+#[derive(Clone, Copy, PartialEq, Eq)]
 pub(crate) struct Blocker {
     /// Its task.
     pub(crate) task: u32,

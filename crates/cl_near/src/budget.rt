@@ -6,7 +6,7 @@ ghost use Rattle.cl_near.specs.declared.budget.TheConstants.{MOST_EXECUTIONS_OF_
 pub const MOST_EXECUTIONS_OF_RUNS: u64 = 8_000_000;
 
 /// How many executions may still be made.
-#[derive(Clone, Copy, Debug, PartialEq, Eq)]
+#[derive(Clone, Copy, PartialEq, Eq)]
 pub struct Budget {
     left: u64,
 }

@@ -9,7 +9,7 @@ use cl_gen::Wishes;
 use cl_model::ValidModel;
 
 /// How long the jobs of a run of a chain take.
-#[derive(Clone, Copy, Debug, PartialEq, Eq)]
+#[derive(Clone, Copy, PartialEq, Eq)]
 pub(crate) enum Load {
     /// The least times up to a read that is to be early, and the greatest up to a write that is to
     /// be late.

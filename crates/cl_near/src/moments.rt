@@ -9,7 +9,7 @@ pub(crate) fn tick_of(moment: i64) -> u64 {
 }
 
 /// A moment that is noted for a task or a core, given by its number.
-#[derive(Clone, Copy, Debug, PartialEq, Eq, PartialOrd, Ord)]
+#[derive(Clone, Copy, PartialEq, Eq, PartialOrd, Ord)]
 struct Noted {
     of: u32,
     moment: u64,

@@ -5,7 +5,7 @@ use cl_gen::{MOST_EXECUTIONS, MOST_RUN_TICKS, count_executions};
 use cl_model::ValidModel;
 
 /// How large a run is.
-#[derive(Clone, Copy, Debug, PartialEq, Eq)]
+#[derive(Clone, Copy, PartialEq, Eq)]
 pub enum RunSize {
     /// It has more than `MOST_RUN_TICKS` ticks.
     TooLong,

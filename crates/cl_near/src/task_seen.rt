@@ -20,7 +20,7 @@ use cl_time::NoMemory;
 use std::alloc::Global;
 
 /// What is seen of a task in a run.
-#[derive(Clone, Copy, Debug, PartialEq, Eq)]
+#[derive(Clone, Copy, PartialEq, Eq)]
 pub enum SeenOfTask {
     /// A job hasn't finished by its deadline, and the run lasts until then.
     Missed,

@@ -10,8 +10,8 @@ use Rattle.cl_bound.specs.{declared.answer.TaskAnswer.TaskAnswer, Answers.answer
 use Rattle.cl_analyse.specs.{declared.findings.ChainAnswer.ChainAnswer, ChainAnswers.chain_answer_at}
 use Rattle.cl_chain.specs.GreatestDelays.{IsGreatestDelayBy}
 use Rattle.cl_tight.specs.TightFindings.{tight_findings_of}
-use Rattle.cl_observe.specs.{declared.task_shown.ShownTask.ShownTask, Shown.{MissesItsDeadline, HasResponseIn, HasJitterIn, HasTimeIn, IsShownTask}, Observed.{runnable_line, shown_line, jitter_line, length_of, kind_length_lines, IsTimeLine, IsTaskText, IsChainText, IsShownInOrder}}
-use Rattle.cl_observe.specs.Observed.{IsUnordered, IsObservationOf}
+use Rattle.cl_observe.specs.{declared.task_shown.ShownTask.ShownTask, Shown.{MissesItsDeadline, HasResponseIn, HasJitterIn, HasTimeIn, IsShownTask}, Observed.{observed_runnable_line, shown_line, observed_jitter_line, length_of, kind_length_lines, IsTimeLine, IsTaskText, IsChainText}}
+use Rattle.cl_observe.specs.Observed.{IsShownInOrder, IsUnordered, IsObservationOf}
 use Rattle.cl_observe.proofs.{OneValue.{counts_once, greatest_once, spread_once}, OneRule.one_legality, MadeTexts.made_once}
 
 module _ (model : SystemModel) (run : Run) where
@@ -29,15 +29,15 @@ module _ (model : SystemModel) (run : Run) where
   time_once : (task place : ℕ) (one other : List ℕ) → IsTimeLine model run task place one → IsTimeLine model run task place other → one ≡ other
   time_once task place one other is also =
       is.printed
-      ∙ ap (runnable_line model task place) (spread_once (HasTimeIn (system_of model) run task place) is.time also.time is.shown also.shown)
+      ∙ ap (observed_runnable_line model task place) (spread_once (HasTimeIn (system_of model) run task place) is.time also.time is.shown also.shown)
       ∙ sym also.printed
 
   task_once : (answer : TaskAnswer) (task : ℕ) (one other : List ℕ) → IsTaskText model run answer task one → IsTaskText model run answer task other → one ≡ other
   task_once answer task one other is also =
       is.printed
-      ∙ ap (λ (shown : ShownTask). (shown_line model answer task (length (jobs_of run task)) shown ++ jitter_line model task shown.jitter) ++ is.times)
+      ∙ ap (λ (shown : ShownTask). (shown_line model answer task (length (jobs_of run task)) shown ++ observed_jitter_line model task shown.jitter) ++ is.times)
       (shown_once task is.shown also.shown is.is_shown also.is_shown)
-      ∙ ap (λ times. (shown_line model answer task (length (jobs_of run task)) also.shown ++ jitter_line model task also.shown.jitter) ++ times)
+      ∙ ap (λ times. (shown_line model answer task (length (jobs_of run task)) also.shown ++ observed_jitter_line model task also.shown.jitter) ++ times)
       (made_once (IsTimeLine model run task) (time_once task) _ is.times also.times is.are_times also.are_times)
       ∙ sym also.printed
 

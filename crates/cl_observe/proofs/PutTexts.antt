@@ -12,27 +12,27 @@ use Rattle.cl_chain.specs.declared.job_chain.Measured as own_measured
 use Rattle.cl_chain.specs.declared.job_chain.JobChain as own_chain
 use Rattle.cl_chain.specs.{JobChains.{option_of, measured_of}, GreatestDelays.IsGreatestDelayBy}
 use Rattle.cl_tight.specs.{declared.findings.TightFindings.TightFindings, TightFindings.tight_findings_of}
-use Rattle.cl_observe.specs.{declared.{values.Spread.Spread, task_shown.ShownTask.ShownTask}, Shown.{IsShownTask, IsShownTime}, Rules.IsLegalityLine, Observed.{runnable_line, shown_line, jitter_line, length_of, kind_length_lines, GoesOnWith, IsMadeOf, IsTimeLine, IsTaskText, IsChainText}}
-use Rattle.cl_observe.specs.Observed.{IsShownInOrder, IsUnordered, IsObservationOf}
+use Rattle.cl_observe.specs.{declared.{values.Spread.Spread, task_shown.ShownTask.ShownTask}, Shown.{IsShownTask, IsShownTime}, Rules.IsLegalityLine, Observed.{observed_runnable_line, shown_line, observed_jitter_line, length_of, kind_length_lines, GoesOnWith, IsMadeOf, IsTimeLine}}
+use Rattle.cl_observe.specs.Observed.{IsTaskText, IsChainText, IsShownInOrder, IsUnordered, IsObservationOf}
 
 module _ (model : SystemModel) (run : Run) where
   -- ---- tasks
 
   pub time_put : (task place : ℕ) (time : Option Spread) → IsShownTime (system_of model) run task place time → (old new : List ℕ)
-      → new ≡ old ++ runnable_line model task place time → GoesOnWith (IsTimeLine model run task place) old new
+      → new ≡ old ++ observed_runnable_line model task place time → GoesOnWith (IsTimeLine model run task place) old new
   time_put task place time shown old new put = record {
-    piece = runnable_line model task place time;
+    piece = observed_runnable_line model task place time;
     is = record { time = time; shown = shown; printed = refl };
     joined = put;
   }
 
   pub task_put : (answer : TaskAnswer) (task jobs : ℕ) (shown : ShownTask) → IsShownTask (system_of model) run task shown → jobs ≡ length (jobs_of run task)
-      → (old one two new : List ℕ) → one ≡ old ++ shown_line model answer task jobs shown → two ≡ one ++ jitter_line model task shown.jitter
+      → (old one two new : List ℕ) → one ≡ old ++ shown_line model answer task jobs shown → two ≡ one ++ observed_jitter_line model task shown.jitter
       → GoesOnWith (IsMadeOf (IsTimeLine model run task) (length (task_at model task).runnables)) two new
       → GoesOnWith (IsTaskText model run answer task) old new
   task_put answer task jobs shown is count old one two new first second times =
       let head = shown_line model answer task (length (jobs_of run task)) shown in
-      let jitter = jitter_line model task shown.jitter in
+      let jitter = observed_jitter_line model task shown.jitter in
       record {
         piece = (head ++ jitter) ++ times.piece;
         is = record { shown = shown; is_shown = is; times = times.piece; are_times = times.is; printed = refl };

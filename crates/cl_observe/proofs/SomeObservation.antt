@@ -11,7 +11,7 @@ use Rattle.cl_analyse.specs.{declared.findings.ChainAnswer.ChainAnswer, ChainAns
 use Rattle.cl_check.specs.InOrder.{IsRunInOrder}
 use Rattle.cl_chain.proofs.{DecidedMoments.Decided, SomeMeasured.run_measured, SomeDelay.some_delay}
 use Rattle.cl_tight.specs.TightFindings.{tight_findings_of}
-use Rattle.cl_observe.specs.{Rules.{illegal_line, IsLegalityLine}, Observed.{runnable_line, shown_line, jitter_line, length_of, kind_length_lines, IsMadeOf, IsTimeLine, IsTaskText, IsChainText, IsShownInOrder, IsUnordered, IsObservationOf}}
+use Rattle.cl_observe.specs.{Rules.{illegal_line, IsLegalityLine}, Observed.{observed_runnable_line, shown_line, observed_jitter_line, length_of, kind_length_lines, IsMadeOf, IsTimeLine, IsTaskText, IsChainText, IsShownInOrder, IsUnordered, IsObservationOf}}
 use Rattle.cl_observe.proofs.{LegalOrBroken.{IsBroken, legal_or_broken}, DecidedOrder.order_or_not, DecidedJobs.{some_shown_task, some_shown_time}}
 
 -- where there is a piece for each number there is a text
@@ -28,13 +28,13 @@ module _ (model : SystemModel) (run : Run) where
   some_time : (task place : ℕ) → (text : List ℕ) × IsTimeLine model run task place text
   some_time task place =
       let found = some_shown_time (system_of model) run task place in
-      (runnable_line model task place found.0, record { time = found.0; shown = found.1; printed = refl })
+      (observed_runnable_line model task place found.0, record { time = found.0; shown = found.1; printed = refl })
 
   some_task : (answer : TaskAnswer) (task : ℕ) → (text : List ℕ) × IsTaskText model run answer task text
   some_task answer task =
       let found = some_shown_task (system_of model) run task in
       let times = some_made (IsTimeLine model run task) (length (task_at model task).runnables) (λ place within. some_time task place) in (
-        (shown_line model answer task (length (jobs_of run task)) found.0 ++ jitter_line model task found.0.jitter) ++ times.0,
+        (shown_line model answer task (length (jobs_of run task)) found.0 ++ observed_jitter_line model task found.0.jitter) ++ times.0,
         record { shown = found.0; is_shown = found.1; times = times.0; are_times = times.1; printed = refl },
       )
 

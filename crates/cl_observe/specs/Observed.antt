@@ -65,15 +65,15 @@ shown_line model answer task jobs shown =
     ++ codes " response " ++ response_words shown.response ++ bound_beside (response_number shown.response) (response_bound answer))
 
 -- the line of the jitter of a task that has jobs, where its stimulus has jitter or a release isn't an arrival
-abbrev pub jitter_line : SystemModel → (task : ℕ) → Option Spread → List ℕ
-jitter_line model task None = []
-jitter_line model task (Some spread) =
+abbrev pub observed_jitter_line : SystemModel → (task : ℕ) → Option Spread → List ℕ
+observed_jitter_line model task None = []
+observed_jitter_line model task (Some spread) =
     if nat_lt 0 (jitter_of model task) || is_outside spread 0 0
     then line (codes "jitter " ++ (task_at model task).name ++ range_words (Some spread) 0 (jitter_of model task)) else []
 
 -- the line of the time of a runnable of a task
-unfoldable pub runnable_line : SystemModel → (task place : ℕ) → Option Spread → List ℕ
-runnable_line model task place time =
+unfoldable pub observed_runnable_line : SystemModel → (task place : ℕ) → Option Spread → List ℕ
+observed_runnable_line model task place time =
     let runnable = runnable_at model (record { task = task; place = place }) in
     line (codes "runnable " ++ runnable.name ++ range_words time runnable.least runnable.greatest)
 
@@ -124,7 +124,7 @@ IsMadeOf Is (suc n) text = (before : List ℕ) × IsMadeOf Is n before × GoesOn
 pub record IsTimeLine (model : SystemModel) (run : Run) (task place : ℕ) (text : List ℕ) : Type 0 where
   pub time : Option Spread
   pub shown : IsShownTime (system_of model) run task place time
-  pub printed : text ≡ runnable_line model task place time
+  pub printed : text ≡ observed_runnable_line model task place time
 
 -- the lines of a task that has this answer
 pub record IsTaskText (model : SystemModel) (run : Run) (answer : TaskAnswer) (task : ℕ) (text : List ℕ) : Type 0 where
@@ -132,7 +132,7 @@ pub record IsTaskText (model : SystemModel) (run : Run) (answer : TaskAnswer) (t
   pub is_shown : IsShownTask (system_of model) run task shown
   pub times : List ℕ
   pub are_times : IsMadeOf (IsTimeLine model run task) (length (task_at model task).runnables) times
-  pub printed : text ≡ (shown_line model answer task (length (jobs_of run task)) shown ++ jitter_line model task shown.jitter) ++ times
+  pub printed : text ≡ (shown_line model answer task (length (jobs_of run task)) shown ++ observed_jitter_line model task shown.jitter) ++ times
 
 -- the lines of a chain that has this answer
 pub record IsChainText (model : SystemModel) (run : Run) (answer : ChainAnswer) (chain : ℕ) (text : List ℕ) : Type 0 where

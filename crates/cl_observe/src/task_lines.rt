@@ -4,7 +4,7 @@ ghost use Rattle.cl_model.specs.ByNumber.{task_at};
 ghost use Rattle.cl_runs.specs.{SystemOf.system_of, Run.IsInForm};
 ghost use Rattle.cl_check.specs.{Apart.StandApart, InOrder.IsRunInOrder};
 ghost use Rattle.cl_bound.specs.Answers.{answer_at};
-ghost use Rattle.cl_observe.specs.{Inner.JobLists.AreFinishTimes, Observed.{response_number, response_words, response_bound, shown_line, jitter_line, runnable_line, GoesOnWith, IsMadeOf, IsTimeLine, IsTaskText}};
+ghost use Rattle.cl_observe.specs.{Inner.JobLists.AreFinishTimes, Observed.{response_number, response_words, response_bound, shown_line, observed_jitter_line, observed_runnable_line, GoesOnWith, IsMadeOf, IsTimeLine, IsTaskText}};
 
 use crate::task_shown::{ShownTask, finishes, shown_task, shown_time};
 use crate::values::{GreatestResponse, Spread};
@@ -145,7 +145,7 @@ fn put_jitter(
     jitter: Option<Spread>,
 ) -> Result<(), NoMemory>
     requires { task < length model.now.tasks }
-    ensures { OnOk result (text.new ≡ text.old ++ jitter_line model.now task jitter) }
+    ensures { OnOk result (text.new ≡ text.old ++ observed_jitter_line model.now task jitter) }
 {
     let most = model.jitter_of(task);
     match jitter {
@@ -196,7 +196,7 @@ fn put_time(
 ) -> Result<(), NoMemory>
     requires task { task < length model.now.tasks }
     requires place { place < length (task_at model.now task).runnables }
-    ensures { OnOk result (text.new ≡ text.old ++ runnable_line model.now task place time) }
+    ensures { OnOk result (text.new ≡ text.old ++ observed_runnable_line model.now task place time) }
 {
     let runnable = &model.task(task).runnables.as_slice()[place as usize];
     text.put(b"runnable ")?;

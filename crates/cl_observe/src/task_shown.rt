@@ -15,7 +15,7 @@ use cl_time::NoMemory;
 use std::alloc::Global;
 
 /// What a run shows of a task.
-#[derive(Clone, Copy, Debug, PartialEq, Eq)]
+#[derive(Clone, Copy, PartialEq, Eq)]
 pub(crate) struct ShownTask {
     /// How many jobs haven't finished by their deadlines, and the run lasts until then.
     pub(crate) misses: u64,

@@ -3,14 +3,14 @@ ghost use Rattle.std.specs.Prelude.{◌≡◌, pos, ◌-ℤ◌};
 ghost use Rattle.cl_observe.specs.Inner.Choices.{or_response, or_number};
 
 /// The greatest response of some jobs, in ticks, and the least job that has it, counted from 0.
-#[derive(Clone, Copy, Debug, PartialEq, Eq)]
+#[derive(Clone, Copy, PartialEq, Eq)]
 pub(crate) struct GreatestResponse {
     pub(crate) response: i128,
     pub(crate) job: u64,
 }
 
 /// The least and the greatest of the numbers that some jobs have, in ticks.
-#[derive(Clone, Copy, Debug, PartialEq, Eq)]
+#[derive(Clone, Copy, PartialEq, Eq)]
 pub(crate) struct Spread {
     pub(crate) least: i128,
     pub(crate) greatest: i128,

@@ -8,14 +8,14 @@ use Rattle.cl_runs.specs.Pattern.{IsPattern}
 use Rattle.cl_runs.proofs.PatternFacts.{distances_ordered}
 use Rattle.cl_stim.specs.{declared.phase.Phase.Phase, Phase.{IsPhase, IsArrivalOf, phase_of, first_arrival, last_arrival}}
 use Rattle.cl_stim.proofs.{PatternPhases.phase_is, PhaseSteps.{begin, in_order, arrival_lies, first_arrives, first_after, last_arrives, last_before, last_after}}
-use Rattle.cl_phase.specs.{declared.pace.Pace.{Pace, TheVariants.{Kept, Free}}, Pace.{IsPace, first_from, last_by, previous, next, ComesRound, AreNeighbours, greatest_step}}
+use Rattle.cl_phase.specs.{declared.pace.Pace.{Pace, TheVariants.{Kept, Free}}, Pace.{IsPace, first_from, last_by, previous, next, PaceComesRound, AreNeighbours, greatest_step}}
 use Rattle.cl_phase.proofs.{PatternPaces.IsPaceOf, Stepped.IsStepped, WalksBothWays.first_rises, WalkStarts.IsArrivalAt}
 
 module _ (pace : Pace) (stepped : IsStepped pace) where
   pub next_rises : (from to : ℤ) → from ≤ℤ to → next pace from ≤ℤ next pace to
   next_rises from to le = first_rises pace stepped (from +ℤ pos 1) (to +ℤ pos 1) (omega (arith, ints, le))
 
-  pub next_moves : (ticks : ℕ) → ComesRound ticks pace → (moved arrival : ℤ) → moved ≡ (arrival +ℤ pos ticks)
+  pub next_moves : (ticks : ℕ) → PaceComesRound ticks pace → (moved arrival : ℤ) → moved ≡ (arrival +ℤ pos ticks)
       → next pace moved ≡ (next pace arrival +ℤ pos ticks)
   next_moves ticks round moved arrival is =
       let same : (moved +ℤ pos 1) ≡ ((arrival +ℤ pos 1) +ℤ pos ticks) = omega (arith, ints, is) in

@@ -3,7 +3,7 @@
 use Rattle.std.proofs.Common.{◌≡◌, ℕ, ℤ, pos, ◌<◌, inl, inr, List, length, sym, arith}
 use Rattle.std.specs.Prelude.{◌+ℤ◌, ◌-ℤ◌, ◌≤ℤ◌}
 use Rattle.std.proofs.lemmas.Int.{ints}
-use Rattle.cl_phase.specs.{declared.stop.Stop.Stop, Pace.ComesRound, Walks.{pace_at, arrival_at_first}, TightBounds.{ticks_or_none, delay_from, bounds_from}}
+use Rattle.cl_phase.specs.{declared.stop.Stop.Stop, Pace.PaceComesRound, Walks.{pace_at, arrival_at_first}, TightBounds.{ticks_or_none, delay_from, bounds_from}}
 use Rattle.cl_phase.proofs.{Stepped.IsStepped, WalksMove.{last_moves, first_moves}, WalkStarts.{AreStops, IsArrivalAt, HasStart, start_of, from_start}, DelaySteps.next_moves}
 
 same_delay : (last moved_last first moved_first more write : ℤ) → moved_last ≡ (last +ℤ more) → moved_first ≡ (first +ℤ more)
@@ -12,7 +12,7 @@ same_delay last moved_last first moved_first more write one other = omega (arith
 
 -- by ticks after which all paces come round, walks last as long
 module _ (stops : List Stop) (stepped : (place : ℕ) → place < length stops → IsStepped (pace_at stops place))
-    (ticks : ℕ) (round : (place : ℕ) → place < length stops → ComesRound ticks (pace_at stops place)) (place : ℕ) (is : place < length stops) where
+    (ticks : ℕ) (round : (place : ℕ) → place < length stops → PaceComesRound ticks (pace_at stops place)) (place : ℕ) (is : place < length stops) where
   delay_moves : (write : ℕ) (moved arrival : ℤ) → moved ≡ (arrival +ℤ pos ticks)
       → delay_from stops write place moved ≡ delay_from stops write place arrival
   delay_moves write moved arrival at =

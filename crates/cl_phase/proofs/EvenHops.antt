@@ -3,7 +3,7 @@ use Rattle.std.proofs.Common.{◌≡◌, ℕ, ◌+◌, ◌-◌, ◌*◌, ◌/◌
 use Rattle.std.proofs.Math.Nat.{div-mul_cancel, dvd-mul_left, dvd-mul_left_of_dvd, mul-le-mul_left}
 use Rattle.std.proofs.lemmas.Bool.{cases_lt}
 use Rattle.std.proofs.lemmas.Int.{ints}
-use Rattle.cl_phase.specs.{declared.{pace.Pace.{Pace, TheVariants.{Kept, Free}}, stop.Stop.Stop}, Pace.{IsPace, ComesRound, first_from, last_by, previous}, Walks.{pace_at, lag_at, onward, back, last_place, arrival_at_last, arrival_at_first}, Inner.Ranges.AreStopsInRange}
+use Rattle.cl_phase.specs.{declared.{pace.Pace.{Pace, TheVariants.{Kept, Free}}, stop.Stop.Stop}, Pace.{IsPace, PaceComesRound, first_from, last_by, previous}, Walks.{pace_at, lag_at, onward, back, last_place, arrival_at_last, arrival_at_first}, Inner.Ranges.AreStopsInRange}
 use Rattle.cl_phase.specs.Inner.Even.{AreEvenTurns, LeadsEvenly}
 use Rattle.cl_phase.proofs.{PaceSteps.paces_step, WalkRanges.{goes_on, onward_more, back_more}, WalksBothWays.{first_rises, last_rises}}
 
@@ -12,7 +12,7 @@ use Rattle.cl_phase.proofs.{PaceSteps.paces_step, WalkRanges.{goes_on, onward_mo
 -- a step of a pace: of two moments the later leads no less far, and whole turns later it leads so many ticks further
 pub record IsStep (pace : Pace) (step : ℤ → ℤ) : Type 0 where
   pub rises : (moment later : ℤ) → moment ≤ℤ later → step moment ≤ℤ step later
-  pub moves : (ticks : ℕ) → ComesRound ticks pace → (moment : ℤ) → step (moment +ℤ pos ticks) ≡ (step moment +ℤ pos ticks)
+  pub moves : (ticks : ℕ) → PaceComesRound ticks pace → (moment : ℤ) → step (moment +ℤ pos ticks) ≡ (step moment +ℤ pos ticks)
 
 first_steps : (pace : Pace) → IsPace pace → IsStep pace (λ moment. first_from pace moment)
 first_steps pace is = record { rises = first_rises pace (paces_step pace is); moves = (paces_step pace is).first_moves }
@@ -34,7 +34,7 @@ times_more done strides before turns within fewer =
       omega (arith, ap (λ n. n * before) whole, ap (λ n. n * turns) whole, one, other, mul-le-mul_left rest fewer),
     )
 
-module _ (pace : Pace) (step : ℤ → ℤ) (is : IsStep pace step) (before turns strides : ℕ) (round : (times : ℕ) → ComesRound (times * turns) pace) (moment : ℤ)
+module _ (pace : Pace) (step : ℤ → ℤ) (is : IsStep pace step) (before turns strides : ℕ) (round : (times : ℕ) → PaceComesRound (times * turns) pace) (moment : ℤ)
     (ends : step (moment +ℤ pos (strides * before)) ≡ (step moment +ℤ pos (strides * turns))) where
   -- a moment so many strides on, as many turns back
   held : ℕ → ℤ
@@ -77,7 +77,7 @@ module _ (pace : Pace) (step : ℤ → ℤ) (is : IsStep pace step) (before turn
 
 -- ---- a hop
 
-pub comes_round_again : (pace : Pace) (turns : ℕ) → ComesRound turns pace → (times : ℕ) → ComesRound (times * turns) pace
+pub comes_round_again : (pace : Pace) (turns : ℕ) → PaceComesRound turns pace → (times : ℕ) → PaceComesRound (times * turns) pace
 comes_round_again (Kept phase) turns round times = dvd-mul_left_of_dvd phase.period round times
 comes_round_again (Free greatest) turns round times = tt
 
@@ -96,7 +96,7 @@ hop_evenly (Kept phase) step is moment before arrival stride strides apart some 
     let here = moment (pos arrival) in
     let at_end : step (here +ℤ pos (strides * before)) ≡ (step here +ℤ pos (strides * turns)) =
     ap step (sym (evenly strides (omega arith))) ∙ ends ∙ ap (λ n. step here +ℤ pos n) (sym whole) in
-    let round : ComesRound turns (Kept phase) = dvd-mul_left phase.period times in
+    let round : PaceComesRound turns (Kept phase) = dvd-mul_left phase.period times in
     record {
       turns = turns;
       round = round;
@@ -120,7 +120,7 @@ leads_as pace walk other arrival stride strides same leads = record {
 }
 
 -- where a walk starts
-pub starts_evenly : (pace : Pace) (arrival stride strides : ℕ) → ComesRound stride pace → LeadsEvenly pace (λ from. from) arrival stride strides
+pub starts_evenly : (pace : Pace) (arrival stride strides : ℕ) → PaceComesRound stride pace → LeadsEvenly pace (λ from. from) arrival stride strides
 starts_evenly pace arrival stride strides round = record {
   turns = stride;
   round = round;
@@ -161,7 +161,7 @@ module _ (stops : List Stop) (are : AreStopsInRange stops) (place : ℕ) where
   back_hop here some within from = back_more stops place (previous (pace_at stops place) from) here some within
 
   module _ (arrival stride strides : ℕ) where
-    pub onward_begins : ComesRound stride (pace_at stops place) → LeadsEvenly (pace_at stops (place + 1 - 1)) (onward_to stops place (place + 1 - (place + 1))) arrival stride strides
+    pub onward_begins : PaceComesRound stride (pace_at stops place) → LeadsEvenly (pace_at stops (place + 1 - 1)) (onward_to stops place (place + 1 - (place + 1))) arrival stride strides
     unfolding onward_to onward
     onward_begins round =
         let here : place + 1 - 1 ≡ place = omega arith in
@@ -171,7 +171,7 @@ module _ (stops : List Stop) (are : AreStopsInRange stops) (place : ℕ) where
         (λ from. ap (onward stops place from) none)
         (subst (λ n. LeadsEvenly (pace_at stops n) (λ from. from) arrival stride strides) (sym here) begins)
 
-    pub back_begins : IsPace (pace_at stops place) → ComesRound stride (pace_at stops place) → LeadsEvenly (pace_at stops place) (back_to stops place (place - place)) arrival stride strides
+    pub back_begins : IsPace (pace_at stops place) → PaceComesRound stride (pace_at stops place) → LeadsEvenly (pace_at stops place) (back_to stops place (place - place)) arrival stride strides
     unfolding back_to back
     back_begins is round =
         let pace = pace_at stops place in

@@ -7,7 +7,7 @@ use Rattle.std.proofs.lemmas.Bool.{cases_lt, and_from, and_parts, le-leb, leb-tr
 use Rattle.std.proofs.lemmas.List.Elements.{All-head, All-tail, All-cons, All-nil}
 use Rattle.cl_stim.specs.{declared.phase.Phase.Phase, Phase.arrivals_in, Multiples.hyperperiod_of}
 use Rattle.cl_stim.proofs.{TurnFacts.period_some, Hyperperiods.{HasPeriod, Divides, hyperperiod_positive, hyperperiod_divided}}
-use Rattle.cl_phase.specs.{declared.pace.Pace.{Pace, TheVariants.{Kept, Free}}, Pace.{IsPace, ComesRound}, Kept.phases_in, TightBounds.has_no_fewer}
+use Rattle.cl_phase.specs.{declared.pace.Pace.{Pace, TheVariants.{Kept, Free}}, Pace.{IsPace, PaceComesRound}, Kept.phases_in, TightBounds.has_no_fewer}
 
 -- a pace that keeps its phase isn't one without
 pub kept_or_free : (phase : Phase) (greatest : ℕ) → Kept phase ≡ Free greatest → ⊥
@@ -25,7 +25,7 @@ kept_periods (Kept phase ∷ paces) all = All-cons HasPeriod phase (phases_in pa
 kept_periods (Free greatest ∷ paces) all = kept_periods paces (All-tail IsPace (Free greatest) paces all)
 
 -- a number that the periods of all kept phases divide comes round for each pace
-rounds : (ticks : ℕ) (paces : List Pace) (place : ℕ) → All (Divides ticks) (phases_in paces) → place < length paces → ComesRound ticks (nth_pace paces place)
+rounds : (ticks : ℕ) (paces : List Pace) (place : ℕ) → All (Divides ticks) (phases_in paces) → place < length paces → PaceComesRound ticks (nth_pace paces place)
 unfolding phases_in
 rounds ticks [] place divide within = absurd (omega (arith, within))
 rounds ticks (Kept phase ∷ paces) zero divide within = All-head (Divides ticks) phase (phases_in paces) divide
@@ -34,7 +34,7 @@ rounds ticks (Free greatest ∷ paces) zero divide within = tt
 rounds ticks (Free greatest ∷ paces) (suc place) divide within = rounds ticks paces place divide (omega (arith, within))
 
 module _ (paces : List Pace) (all : All IsPace paces) where
-  pub hyperperiod_rounds : (place : ℕ) → place < length paces → ComesRound (hyperperiod_of (phases_in paces)) (nth_pace paces place)
+  pub hyperperiod_rounds : (place : ℕ) → place < length paces → PaceComesRound (hyperperiod_of (phases_in paces)) (nth_pace paces place)
   hyperperiod_rounds place within = rounds (hyperperiod_of (phases_in paces)) paces place
       (hyperperiod_divided (phases_in paces) (kept_periods paces all)) within
 

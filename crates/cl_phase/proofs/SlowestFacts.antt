@@ -7,7 +7,7 @@ use Rattle.std.proofs.lemmas.List.Folds.{list_all-map}
 use Rattle.std.proofs.lemmas.List.Sums.{AllPass-from_list_all}
 use Rattle.cl_stim.specs.declared.phase.Phase.{Phase}
 use Rattle.cl_stim.proofs.Ranges.{IsFirstInRange, first_in_range, first_or_default}
-use Rattle.cl_phase.specs.{declared.{pace.Pace.{Pace, TheVariants.{Kept, Free}}, stop.Stop.Stop}, Pace.{IsPace, ComesRound}, Walks.{no_stop, pace_at}, TightBounds.{hyperperiod_in, is_slowest, has_no_fewer, slowest}}
+use Rattle.cl_phase.specs.{declared.{pace.Pace.{Pace, TheVariants.{Kept, Free}}, stop.Stop.Stop}, Pace.{IsPace, PaceComesRound}, Walks.{no_stop, pace_at}, TightBounds.{hyperperiod_in, is_slowest, has_no_fewer, slowest}}
 use Rattle.cl_phase.proofs.KeptFacts.{nth_pace, hyperperiod_rounds, hyperperiod_some, HasFewest, fewest_or_none, kept_or_free}
 
 -- each place has a pace that goes on
@@ -44,9 +44,9 @@ module _ (stops : List Stop) where
     all_paced = All-from_get_or IsPace paces (Free 0)
         (λ place within. subst IsPace (sym (nth_of place (omega (arith, within, length_paces)))) (paced place (omega (arith, within, length_paces))))
 
-    pub hyperperiod_comes_round : (place : ℕ) → place < length stops → ComesRound (hyperperiod_in stops) (pace_at stops place)
+    pub hyperperiod_comes_round : (place : ℕ) → place < length stops → PaceComesRound (hyperperiod_in stops) (pace_at stops place)
     unfolding paces
-    hyperperiod_comes_round place within = subst (ComesRound (hyperperiod_in stops)) (nth_of place within)
+    hyperperiod_comes_round place within = subst (PaceComesRound (hyperperiod_in stops)) (nth_of place within)
         (hyperperiod_rounds paces all_paced place (omega (arith, within, length_paces)))
 
     pub hyperperiod_is_some : 1 ≤ hyperperiod_in stops

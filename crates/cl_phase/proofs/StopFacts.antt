@@ -5,7 +5,7 @@ use Rattle.cl_model.specs.{declared.{group.Group.Group, stimulus.StimulusKind.St
 use Rattle.cl_runs.specs.TaskTiming.{System, timing_at, IsSound}
 use Rattle.cl_stim.specs.{declared.phase.Phase.Phase, Phase.phase_of}
 use Rattle.cl_hop.specs.{Hops.lag, declared.group_timing.GroupTiming.GroupTiming, Timings.IsGroupOfTask}
-use Rattle.cl_phase.specs.{declared.stop.Stop.Stop, Pace.{IsPace, ComesRound, greatest_step}, Kept.{phase_beside, kept_with, pace_with, come_round_soon}, Walks.{pace_at, lag_at}, TightBounds.{stops_beside, hyperperiod_in, slowest}}
+use Rattle.cl_phase.specs.{declared.stop.Stop.Stop, Pace.{IsPace, PaceComesRound, greatest_step}, Kept.{phase_beside, kept_with, pace_with, come_round_soon}, Walks.{pace_at, lag_at}, TightBounds.{stops_beside, hyperperiod_in, slowest}}
 use Rattle.cl_phase.proofs.{PatternPaces.{IsPaceOf, pace_is, pace_step}, Stepped.IsStepped, PaceSteps.paces_step, SlowestFacts.{ArePaced, hyperperiod_comes_round, hyperperiod_is_some, slowest_within}}
 
 -- the pace that a pattern is given is one that is known of it
@@ -67,7 +67,7 @@ module _ (system : System) (timing : Group → GroupTiming) where
     pub stops_step : (place : ℕ) → place < length groups → IsStepped (pace_at stops place)
     stops_step place within = paces_step (pace_at stops place) (stop_is_pace place within)
 
-    pub stops_come_round : (place : ℕ) → place < length groups → ComesRound (hyperperiod_in stops) (pace_at stops place)
+    pub stops_come_round : (place : ℕ) → place < length groups → PaceComesRound (hyperperiod_in stops) (pace_at stops place)
     stops_come_round place within = hyperperiod_comes_round stops stops_are_paced place (omega (arith, within, length_stops groups kept))
 
     pub stops_hyperperiod : 1 ≤ hyperperiod_in stops

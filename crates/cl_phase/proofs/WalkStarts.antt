@@ -7,7 +7,7 @@ use Rattle.std.proofs.lemmas.Nat.Gcd.{dvd_trans}
 use Rattle.std.proofs.lemmas.Int.{ints}
 use Rattle.cl_model.specs.Holds.{greatest_by}
 use Rattle.cl_stim.specs.{declared.phase.Phase.Phase, Phase.IsArrivalOf}
-use Rattle.cl_phase.specs.{declared.{pace.Pace.{Pace, TheVariants.{Kept, Free}}, stop.Stop.Stop}, Pace.{ComesRound, AreNeighbours}, Walks.pace_at, TightBounds.{hyperperiod_in, starts, ticks_or_none, length_from, reduced_from, bounds_from}}
+use Rattle.cl_phase.specs.{declared.{pace.Pace.{Pace, TheVariants.{Kept, Free}}, stop.Stop.Stop}, Pace.{PaceComesRound, AreNeighbours}, Walks.pace_at, TightBounds.{hyperperiod_in, starts, ticks_or_none, length_from, reduced_from, bounds_from}}
 use Rattle.cl_phase.proofs.{Stepped.IsStepped, Walking.{KeepsPhase, IsFreeAt}, WalksMove.{length_moves, reduced_moves}, ArrivalsMove.{StandsAs, stands_as, arrives_later, arrives_earlier}}
 
 -- what is needed of the groups of a chain and the place from which its walks start: the paces step and come round, and
@@ -16,7 +16,7 @@ pub record AreStops (stops : List Stop) (place : ℕ) : Type 0 where
   pub is_place : place < length stops
   pub stepped : (other : ℕ) → other < length stops → IsStepped (pace_at stops other)
   pub some_tick : 1 ≤ hyperperiod_in stops
-  pub round : (other : ℕ) → other < length stops → ComesRound (hyperperiod_in stops) (pace_at stops other)
+  pub round : (other : ℕ) → other < length stops → PaceComesRound (hyperperiod_in stops) (pace_at stops other)
   pub start : (KeepsPhase stops place) ⊎ ((place ≡ 0) × ((other : ℕ) → other < length stops → IsFreeAt stops other))
   -- each arrival in the first hyperperiod is one from which walks start
   pub taken : (phase : Phase) → pace_at stops place ≡ Kept phase → (number : ℕ → ℕ) (moment : ℕ) → moment < hyperperiod_in stops
@@ -36,16 +36,16 @@ after_arrives (Free greatest) before after near = tt
 pub record HasStart (stops : List Stop) (place : ℕ) (arrival : ℤ) : Type 0 where
   pub first : ℕ
   pub ticks : ℕ
-  pub round : (other : ℕ) → other < length stops → ComesRound ticks (pace_at stops other)
+  pub round : (other : ℕ) → other < length stops → PaceComesRound ticks (pace_at stops other)
   pub moved : (arrival ≡ (pos first +ℤ pos ticks)) ⊎ (pos first ≡ (arrival +ℤ pos ticks))
   pub taken : (number : ℕ → ℕ) → number first ≤ greatest_by number (starts (pace_at stops place) (hyperperiod_in stops))
 
 -- after whole times a round a pace has come round
-rounds : (pace : Pace) (times ticks : ℕ) → ComesRound ticks pace → ComesRound (times * ticks) pace
+rounds : (pace : Pace) (times ticks : ℕ) → PaceComesRound ticks pace → PaceComesRound (times * ticks) pace
 rounds (Kept phase) times ticks round = dvd_trans phase.period round (dvd-mul_left ticks times)
 rounds (Free greatest) times ticks round = tt
 
-free_rounds : (pace : Pace) (greatest ticks : ℕ) → pace ≡ Free greatest → ComesRound ticks pace
+free_rounds : (pace : Pace) (greatest ticks : ℕ) → pace ≡ Free greatest → PaceComesRound ticks pace
 free_rounds (Kept phase) greatest ticks is = cc
 free_rounds (Free other) greatest ticks is = tt
 
@@ -55,7 +55,7 @@ module _ (stops : List Stop) (place : ℕ) (are : AreStops stops place) where
       → IsArrivalOf phase arrival → IsArrivalOf phase (pos stands.first)
   stood phase arrival is stands arrives =
       let round : phase.period ∣ (stands.times * hyperperiod_in stops)
-      = rounds (Kept phase) stands.times (hyperperiod_in stops) (subst (ComesRound (hyperperiod_in stops)) is (are.round place are.is_place)) in
+      = rounds (Kept phase) stands.times (hyperperiod_in stops) (subst (PaceComesRound (hyperperiod_in stops)) is (are.round place are.is_place)) in
       elim stands.moved [
         | inl later ↦ arrives_earlier phase (stands.times * hyperperiod_in stops) round arrival (pos stands.first) (sym later) arrives
         | inr earlier ↦ arrives_later phase (stands.times * hyperperiod_in stops) round arrival (pos stands.first) earlier arrives

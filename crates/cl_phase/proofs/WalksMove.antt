@@ -2,7 +2,7 @@
 use Rattle.std.proofs.Common.{◌≡◌, ℕ, ℤ, pos, zero, suc, ◌+◌, ◌-◌, ◌<◌, List, length, ap, ◌∙◌, arith}
 use Rattle.std.specs.Prelude.{◌+ℤ◌, ◌-ℤ◌}
 use Rattle.std.proofs.lemmas.Int.{ints}
-use Rattle.cl_phase.specs.{declared.{pace.Pace.Pace, stop.Stop.Stop}, Pace.{first_from, last_by, previous, ComesRound}, Walks.{pace_at, lag_at, onward, back, last_place, arrival_at_last, arrival_at_first}, TightBounds.{length_from, reduced_from}}
+use Rattle.cl_phase.specs.{declared.{pace.Pace.Pace, stop.Stop.Stop}, Pace.{first_from, last_by, previous, PaceComesRound}, Walks.{pace_at, lag_at, onward, back, last_place, arrival_at_last, arrival_at_first}, TightBounds.{length_from, reduced_from}}
 use Rattle.cl_phase.proofs.Stepped.{IsStepped}
 
 -- sums whose terms stand in another order
@@ -16,13 +16,13 @@ same_length : (last moved_last first moved_first more span : ℤ) → moved_last
     → ((moved_last -ℤ moved_first) +ℤ span) ≡ ((last -ℤ first) +ℤ span)
 same_length last moved_last first moved_first more span one other = omega (arith, ints, one, other)
 
-pub previous_moves : (pace : Pace) → IsStepped pace → (ticks : ℕ) → ComesRound ticks pace → (moved arrival : ℤ) → moved ≡ (arrival +ℤ pos ticks)
+pub previous_moves : (pace : Pace) → IsStepped pace → (ticks : ℕ) → PaceComesRound ticks pace → (moved arrival : ℤ) → moved ≡ (arrival +ℤ pos ticks)
     → previous pace moved ≡ (previous pace arrival +ℤ pos ticks)
 previous_moves pace stepped ticks round moved arrival is =
     ap (last_by pace) (with_less moved arrival (pos ticks) (pos 1) is) ∙ stepped.last_moves ticks round (arrival -ℤ pos 1)
 
 module _ (stops : List Stop) (stepped : (place : ℕ) → place < length stops → IsStepped (pace_at stops place))
-    (ticks : ℕ) (round : (place : ℕ) → place < length stops → ComesRound ticks (pace_at stops place)) (place : ℕ) where
+    (ticks : ℕ) (round : (place : ℕ) → place < length stops → PaceComesRound ticks (pace_at stops place)) (place : ℕ) where
   onward_moves : (moved arrival : ℤ) → moved ≡ (arrival +ℤ pos ticks) → (hops : ℕ) → place + hops < length stops
       → onward stops place moved hops ≡ (onward stops place arrival hops +ℤ pos ticks)
   unfolding onward

@@ -34,9 +34,9 @@ AreNeighbours (Kept phase) before after = AreConsecutive phase before after
 AreNeighbours (Free greatest) before after = after ≤ℤ (before +ℤ pos greatest)
 
 -- after so many ticks the arrivals are the same again
-abbrev pub ComesRound : (ticks : ℕ) → Pace → Type 0
-ComesRound ticks (Kept phase) = phase.period ∣ ticks
-ComesRound ticks (Free greatest) = Unit {0}
+abbrev pub PaceComesRound : (ticks : ℕ) → Pace → Type 0
+PaceComesRound ticks (Kept phase) = phase.period ∣ ticks
+PaceComesRound ticks (Free greatest) = Unit {0}
 
 -- the greatest distance between two arrivals
 abbrev pub greatest_step : Pace → ℕ

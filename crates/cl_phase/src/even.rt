@@ -1,6 +1,6 @@
 //! Walks that change evenly from start to start. Times are in ticks.
 ghost use Rattle.std.specs.Prelude.{◌≡◌, ◌+◌, ◌*◌, ◌<◌, ◌≤◌, ℤ, true, length};
-ghost use Rattle.cl_phase.specs.{Pace.ComesRound, Walks.{pace_at, last_place, arrival_at_first, arrival_at_last}, Inner.{Even.{AreEvenTurns, LeadsEvenly}, Ranges.{LONGEST_HYPERPERIOD, IsPaceInRange, AreStopsInRange}}};
+ghost use Rattle.cl_phase.specs.{Pace.PaceComesRound, Walks.{pace_at, last_place, arrival_at_first, arrival_at_last}, Inner.{Even.{AreEvenTurns, LeadsEvenly}, Ranges.{LONGEST_HYPERPERIOD, IsPaceInRange, AreStopsInRange}}};
 
 use crate::pace::Pace;
 use crate::stop::Stop;
@@ -32,7 +32,7 @@ fn leads_evenly_onward(
 ) -> bool
     requires stops { AreStopsInRange stops.now }
     requires place { place < length stops.now }
-    requires round { ComesRound stride (pace_at stops.now place) }
+    requires round { PaceComesRound stride (pace_at stops.now place) }
     requires some { 1 ≤ strides }
     requires near { arrival + strides * stride ≤ LONGEST_HYPERPERIOD }
     ensures { result ≡ true → LeadsEvenly (pace_at stops.now (last_place stops.now))
@@ -56,7 +56,7 @@ fn leads_evenly_onward(
 fn leads_evenly_back(stops: &[Stop], place: usize, arrival: u64, stride: u64, strides: u64) -> bool
     requires stops { AreStopsInRange stops.now }
     requires place { place < length stops.now }
-    requires round { ComesRound stride (pace_at stops.now place) }
+    requires round { PaceComesRound stride (pace_at stops.now place) }
     requires some { 1 ≤ strides }
     requires near { arrival + strides * stride ≤ LONGEST_HYPERPERIOD }
     ensures { result ≡ true → LeadsEvenly (pace_at stops.now 0)
@@ -90,7 +90,7 @@ pub(crate) fn changes_evenly(
 ) -> bool
     requires stops { AreStopsInRange stops.now }
     requires place { place < length stops.now }
-    requires round { ComesRound stride (pace_at stops.now place) }
+    requires round { PaceComesRound stride (pace_at stops.now place) }
     requires some { 1 ≤ strides }
     requires near { arrival + strides * stride ≤ LONGEST_HYPERPERIOD }
     ensures onward { result ≡ true → LeadsEvenly (pace_at stops.now (last_place stops.now))

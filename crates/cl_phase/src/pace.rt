@@ -10,7 +10,7 @@ use cl_stim::Phase;
 pub const MOST_ARRIVALS: u64 = 1_000_000;
 
 /// How the arrivals of a group follow each other, as far as the bounds know.
-#[derive(Clone, Copy, Debug, PartialEq, Eq)]
+#[derive(Clone, Copy, PartialEq, Eq)]
 pub enum Pace {
     /// They keep this phase.
     Kept(Phase),

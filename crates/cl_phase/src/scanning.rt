@@ -1,6 +1,7 @@
 //! The longest walks from the arrivals of a group. Times are in ticks.
 ghost use Rattle.std.specs.Prelude.{◌≡◌, ◌+◌, ◌*◌, ◌<◌, ◌≤◌, max, ℕ, List, length};
-ghost use Rattle.cl_phase.specs.{declared.{pace.Pace.Pace, stop.Stop.Stop, walk.Ends.Ends}, Pace.ComesRound, Walks.pace_at, TightBounds.starts, Inner.{Ranges.{LONGEST_HYPERPERIOD, AreStopsInRange, AreEndsInRange}, Longest.{longer_of, longest_walk}, Scanned.{AreLongestFrom, IsInStrides}}};
+ghost use Rattle.cl_phase.specs.{declared.{pace.Pace.Pace, stop.Stop.Stop, walk.Ends.Ends}, Pace.PaceComesRound, Walks.pace_at, TightBounds.starts, Inner.{Ranges.{LONGEST_HYPERPERIOD, AreStopsInRange, AreEndsInRange}, Longest.{longer_of, longest_walk}, Scanned.AreLongestFrom}};
+ghost use Rattle.cl_phase.specs.Inner.Scanned.{IsInStrides};
 
 use crate::even::changes_evenly;
 use crate::pace::Pace;
@@ -61,7 +62,7 @@ fn longest_in_strides(
     requires stops { AreStopsInRange stops.now }
     requires ends { AreEndsInRange ends }
     requires place { place < length stops.now }
-    requires round { ComesRound stride (pace_at stops.now place) }
+    requires round { PaceComesRound stride (pace_at stops.now place) }
     requires some { 1 ≤ stride }
     requires near { first + strides * stride ≤ LONGEST_HYPERPERIOD }
     ensures { AreLongestFrom stops.now ends place (IsInStrides first stride strides) result }

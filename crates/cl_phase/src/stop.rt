@@ -4,7 +4,7 @@ use crate::pace::Pace;
 /// A group of a chain on its walks: the pace of its arrivals, and the lag of the hop to the next
 /// group. A job of the next group that just misses what a job of this one writes arrives less than
 /// the lag after it.
-#[derive(Clone, Copy, Debug, PartialEq, Eq)]
+#[derive(Clone, Copy, PartialEq, Eq)]
 pub struct Stop {
     pub pace: Pace,
     /// The lag of the hop to the next group, 0 for the last group.

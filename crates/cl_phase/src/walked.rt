@@ -17,7 +17,7 @@ use cl_time::NoMemory;
 use std::alloc::Global;
 
 /// The arrivals of a walk along the groups of a chain. They may lie before 0.
-#[derive(Debug, PartialEq, Eq, Drop)]
+#[derive(PartialEq, Eq, Drop)]
 pub struct Walked {
     /// The place of the group from which the walk starts.
     pub place: usize,

@@ -21,7 +21,7 @@ use std::alloc::Global;
 /// misses, and of its job that takes.
 ///
 /// Each job that just misses has a job before it, also at the groups whose arrivals are fixed.
-#[derive(Debug, PartialEq, Eq, Drop)]
+#[derive(PartialEq, Eq, Drop)]
 pub struct WholeWalk {
     /// For each group, whether it keeps its phase.
     pub kept: List<bool>,

@@ -5,15 +5,15 @@ use Rattle.std.proofs.lemmas.Grind.{flat_map-append}
 use Rattle.std.proofs.lemmas.List.{append-nil, map-append, take_more, take_all}
 use Rattle.cl_text.specs.Line.{line}
 use Rattle.cl_text.proofs.MoreLines.{range_more}
-use Rattle.cl_picture.specs.Pieces.{Piece, Element, piece_text, spelled, print}
+use Rattle.cl_picture.specs.Pieces.{Piece, Element, piece_text, pieces_text, print}
 
-pub spelled-append : (some more : List Piece) → spelled (some ++ more) ≡ spelled some ++ spelled more
-unfolding spelled
+pub spelled-append : (some more : List Piece) → pieces_text (some ++ more) ≡ pieces_text some ++ pieces_text more
+unfolding pieces_text
 spelled-append some more = flat_map-append piece_text some more
 
 pub print-append : (some more : List Element) → print (some ++ more) ≡ print some ++ print more
 unfolding print
-print-append some more = flat_map-append (λ (element : Element). line (spelled element)) some more
+print-append some more = flat_map-append (λ (element : Element). line (pieces_text element)) some more
 
 -- what comes of one more number
 pub flat_range : {X : Type 0} (f : ℕ → List X) (n : ℕ) → flat_map f (range_with_len 0 n) ++ f n ≡ flat_map f (range_with_len 0 (n + 1))
@@ -54,21 +54,21 @@ pub print-nil : print [] ≡ []
 unfolding print
 print-nil = refl
 
-pub spelled-nil : spelled [] ≡ []
-unfolding spelled
+pub spelled-nil : pieces_text [] ≡ []
+unfolding pieces_text
 spelled-nil = refl
 
 -- before anything is put
 pub no_elements : (t : List ℕ) → t ≡ t ++ print []
 no_elements t = sym (append-nil t) ∙ ap (λ (u : List ℕ). t ++ u) (sym print-nil)
 
-pub no_pieces : (t : List ℕ) → t ≡ t ++ spelled []
+pub no_pieces : (t : List ℕ) → t ≡ t ++ pieces_text []
 no_pieces t = sym (append-nil t) ∙ ap (λ (u : List ℕ). t ++ u) (sym spelled-nil)
 
 -- pieces behind pieces
-pub more_pieces : (t0 t1 t2 : List ℕ) (some more : List Piece) → t1 ≡ t0 ++ spelled some → t2 ≡ t1 ++ spelled more → t2 ≡ t0 ++ spelled (some ++ more)
+pub more_pieces : (t0 t1 t2 : List ℕ) (some more : List Piece) → t1 ≡ t0 ++ pieces_text some → t2 ≡ t1 ++ pieces_text more → t2 ≡ t0 ++ pieces_text (some ++ more)
 more_pieces t0 t1 t2 some more first second =
-    second ∙ ap (λ (t : List ℕ). t ++ spelled more) first ∙ append_assoc t0 (spelled some) (spelled more)
+    second ∙ ap (λ (t : List ℕ). t ++ pieces_text more) first ∙ append_assoc t0 (pieces_text some) (pieces_text more)
     ∙ ap (λ (t : List ℕ). t0 ++ t) (sym (spelled-append some more))
 
 -- elements behind elements
@@ -78,25 +78,25 @@ more_elements t0 t1 t2 some more first second =
     ∙ ap (λ (t : List ℕ). t0 ++ t) (sym (print-append some more))
 
 -- a line that begins with pieces
-pub joined_line : (some more : List Piece) → spelled some ++ print (more ∷ []) ≡ print ((some ++ more) ∷ [])
+pub joined_line : (some more : List Piece) → pieces_text some ++ print (more ∷ []) ≡ print ((some ++ more) ∷ [])
 unfolding print
 joined_line some more =
-    ap (λ (t : List ℕ). spelled some ++ t) (append-nil (spelled more ++ 0x0A ∷ []))
-    ∙ sym (append_assoc (spelled some) (spelled more) (0x0A ∷ []))
+    ap (λ (t : List ℕ). pieces_text some ++ t) (append-nil (pieces_text more ++ 0x0A ∷ []))
+    ∙ sym (append_assoc (pieces_text some) (pieces_text more) (0x0A ∷ []))
     ∙ ap (λ (t : List ℕ). t ++ 0x0A ∷ []) (sym (spelled-append some more))
-    ∙ sym (append-nil (spelled (some ++ more) ++ 0x0A ∷ []))
+    ∙ sym (append-nil (pieces_text (some ++ more) ++ 0x0A ∷ []))
 
-pub line_behind : (t0 t1 t2 : List ℕ) (some more : List Piece) → t1 ≡ t0 ++ spelled some → t2 ≡ t1 ++ print (more ∷ []) → t2 ≡ t0 ++ print ((some ++ more) ∷ [])
+pub line_behind : (t0 t1 t2 : List ℕ) (some more : List Piece) → t1 ≡ t0 ++ pieces_text some → t2 ≡ t1 ++ print (more ∷ []) → t2 ≡ t0 ++ print ((some ++ more) ∷ [])
 line_behind t0 t1 t2 some more first second =
-    second ∙ ap (λ (t : List ℕ). t ++ print (more ∷ [])) first ∙ append_assoc t0 (spelled some) (print (more ∷ []))
+    second ∙ ap (λ (t : List ℕ). t ++ print (more ∷ [])) first ∙ append_assoc t0 (pieces_text some) (print (more ∷ []))
     ∙ ap (λ (t : List ℕ). t0 ++ t) (joined_line some more)
 
 -- the pieces of one more number
-pub numbered_pieces : (pieces : ℕ → List Piece) (t0 t1 t2 : List ℕ) (n : ℕ) → t1 ≡ t0 ++ spelled (flat_map pieces (range_with_len 0 n))
-    → t2 ≡ t1 ++ spelled (pieces n) → t2 ≡ t0 ++ spelled (flat_map pieces (range_with_len 0 (n + 1)))
+pub numbered_pieces : (pieces : ℕ → List Piece) (t0 t1 t2 : List ℕ) (n : ℕ) → t1 ≡ t0 ++ pieces_text (flat_map pieces (range_with_len 0 n))
+    → t2 ≡ t1 ++ pieces_text (pieces n) → t2 ≡ t0 ++ pieces_text (flat_map pieces (range_with_len 0 (n + 1)))
 numbered_pieces pieces t0 t1 t2 n first second =
     more_pieces t0 t1 t2 (flat_map pieces (range_with_len 0 n)) (pieces n) first second
-    ∙ ap (λ (ps : List Piece). t0 ++ spelled ps) (flat_range pieces n)
+    ∙ ap (λ (ps : List Piece). t0 ++ pieces_text ps) (flat_range pieces n)
 
 -- the elements of one more number
 pub numbered_elements : (elements : ℕ → List Element) (t0 t1 t2 : List ℕ) (n : ℕ) → t1 ≡ t0 ++ print (flat_map elements (range_with_len 0 n))
@@ -128,15 +128,15 @@ listed_elements elements xs x d t0 t1 t2 n within is first second =
 
 -- the pieces of one more item
 pub listed_pieces : {X : Type 0} (pieces : X → List Piece) (xs : List X) (x d : X) (t0 t1 t2 : List ℕ) (n : ℕ) → n < length xs → x ≡ get_or xs n d
-    → t1 ≡ t0 ++ spelled (flat_map pieces (take n xs)) → t2 ≡ t1 ++ spelled (pieces x) → t2 ≡ t0 ++ spelled (flat_map pieces (take (n + 1) xs))
+    → t1 ≡ t0 ++ pieces_text (flat_map pieces (take n xs)) → t2 ≡ t1 ++ pieces_text (pieces x) → t2 ≡ t0 ++ pieces_text (flat_map pieces (take (n + 1) xs))
 listed_pieces pieces xs x d t0 t1 t2 n within is first second =
     more_pieces t0 t1 t2 (flat_map pieces (take n xs)) (pieces x) first second
-    ∙ ap (λ (ps : List Piece). t0 ++ spelled ps) (flat_take pieces xs x d n within is)
+    ∙ ap (λ (ps : List Piece). t0 ++ pieces_text ps) (flat_take pieces xs x d n within is)
 
 -- all items
 pub all_pieces : {X : Type 0} (pieces : X → List Piece) (xs : List X) (t0 t1 : List ℕ) (n : ℕ) → length xs ≤ n
-    → t1 ≡ t0 ++ spelled (flat_map pieces (take n xs)) → t1 ≡ t0 ++ spelled (flat_map pieces xs)
-all_pieces pieces xs t0 t1 n all is = is ∙ ap (λ ys. t0 ++ spelled (flat_map pieces ys)) (take_all n xs all)
+    → t1 ≡ t0 ++ pieces_text (flat_map pieces (take n xs)) → t1 ≡ t0 ++ pieces_text (flat_map pieces xs)
+all_pieces pieces xs t0 t1 n all is = is ∙ ap (λ ys. t0 ++ pieces_text (flat_map pieces ys)) (take_all n xs all)
 
 pub all_elements : {X : Type 0} (elements : X → List Element) (xs : List X) (t0 t1 : List ℕ) (n : ℕ) → length xs ≤ n
     → t1 ≡ t0 ++ print (flat_map elements (take n xs)) → t1 ≡ t0 ++ print (flat_map elements xs)
@@ -156,5 +156,5 @@ pub all_numbered_lines : (element : ℕ → Element) (t0 t1 : List ℕ) (n m : �
 all_numbered_lines element t0 t1 n m all is = is ∙ ap (λ k. t0 ++ print (map element (range_with_len 0 k))) all
 
 pub all_numbered_pieces : (pieces : ℕ → List Piece) (t0 t1 : List ℕ) (n m : ℕ) → n ≡ m
-    → t1 ≡ t0 ++ spelled (flat_map pieces (range_with_len 0 n)) → t1 ≡ t0 ++ spelled (flat_map pieces (range_with_len 0 m))
-all_numbered_pieces pieces t0 t1 n m all is = is ∙ ap (λ k. t0 ++ spelled (flat_map pieces (range_with_len 0 k))) all
+    → t1 ≡ t0 ++ pieces_text (flat_map pieces (range_with_len 0 n)) → t1 ≡ t0 ++ pieces_text (flat_map pieces (range_with_len 0 m))
+all_numbered_pieces pieces t0 t1 n m all is = is ∙ ap (λ k. t0 ++ pieces_text (flat_map pieces (range_with_len 0 k))) all

@@ -6,12 +6,12 @@ use Rattle.std.proofs.lemmas.Fmt.{length-decimal-le}
 use Rattle.std.proofs.lemmas.List.Elements.{All-head, All-tail}
 use Rattle.std.proofs.lemmas.List.Sums.{sum_by-cons}
 use Rattle.cl_text.specs.Line.{line}
-use Rattle.cl_picture.specs.Pieces.{Piece, Fixed, Number, Name, Element, spelled, print}
+use Rattle.cl_picture.specs.Pieces.{Piece, Fixed, Number, Name, Element, pieces_text, print}
 use Rattle.cl_picture.proofs.Printing.{spelled-append, print-append, spelled-nil, print-nil}
 
 -- pieces of so many bytes at most
 pub record IsWithin (pieces : List Piece) (most : ℕ) : Type 0 where
-  pub within : length (spelled pieces) ≤ most
+  pub within : length (pieces_text pieces) ≤ most
 
 -- elements of so many bytes at most
 pub record AreWithin (elements : List Element) (most : ℕ) : Type 0 where
@@ -40,20 +40,20 @@ one_more : (text : List ℕ) (rest : List ℕ) (most others : ℕ) → length te
 one_more text rest most others first second = omega (arith, first, second, length-append text rest)
 
 pub fixed : (words : List ℕ) {pieces : List Piece} {most : ℕ} → IsWithin pieces most → IsWithin (Fixed words ∷ pieces) (length words + most)
-unfolding spelled
-fixed words {pieces} {most} is = record { within = one_more words (spelled pieces) (length words) most (omega arith) is.within }
+unfolding pieces_text
+fixed words {pieces} {most} is = record { within = one_more words (pieces_text pieces) (length words) most (omega arith) is.within }
 
 pub number : {n k : ℕ} → HasDigits n k → {pieces : List Piece} {most : ℕ} → IsWithin pieces most → IsWithin (Number n ∷ pieces) (k + most)
-unfolding spelled
-number {n} {k} has {pieces} {most} is = record { within = one_more (decimal n) (spelled pieces) k most has.within is.within }
+unfolding pieces_text
+number {n} {k} has {pieces} {most} is = record { within = one_more (decimal n) (pieces_text pieces) k most has.within is.within }
 
 pub name : {word : List ℕ} → IsShortName word → {pieces : List Piece} {most : ℕ} → IsWithin pieces most → IsWithin (Name word ∷ pieces) (64 + most)
-unfolding spelled
-name {word} has {pieces} {most} is = record { within = one_more word (spelled pieces) 64 most has.within is.within }
+unfolding pieces_text
+name {word} has {pieces} {most} is = record { within = one_more word (pieces_text pieces) 64 most has.within is.within }
 
 pub both : {some more : List Piece} {a b : ℕ} → IsWithin some a → IsWithin more b → IsWithin (some ++ more) (a + b)
 both {some} {more} {a} {b} one other = record {
-  within = omega (arith, one.within, other.within, ap length (spelled-append some more), length-append (spelled some) (spelled more));
+  within = omega (arith, one.within, other.within, ap length (spelled-append some more), length-append (pieces_text some) (pieces_text more));
 }
 
 pub each_of : {X : Type 0} (f : X → List Piece) (xs : List X) (most : ℕ) → All (λ x. IsWithin (f x) most) xs → IsWithin (flat_map f xs) (most * length xs)
@@ -77,8 +77,8 @@ a_line {element} {elements} {most} {others} is rest = record {
     arith,
     is.within,
     rest.within,
-    length-append (line (spelled element)) (print elements),
-    length-append (spelled element) (0x0A ∷ []),
+    length-append (line (pieces_text element)) (print elements),
+    length-append (pieces_text element) (0x0A ∷ []),
   );
 }
 

@@ -22,12 +22,12 @@ piece_text (Number number) = decimal number
 piece_text (Name name) = name
 
 -- the bytes of pieces, one after the other
-unfoldable pub spelled : List Piece → List ℕ
-spelled pieces = flat_map piece_text pieces
+unfoldable pub pieces_text : List Piece → List ℕ
+pieces_text pieces = flat_map piece_text pieces
 
 -- the text of elements: each a line
 unfoldable pub print : List Element → List ℕ
-print elements = flat_map (λ element. line (spelled element)) elements
+print elements = flat_map (λ element. line (pieces_text element)) elements
 
 -- a piece of the code as one of the definitions
 abbrev pub piece_of : own.Piece → Piece

@@ -2,7 +2,7 @@
 ghost use Rattle.std.specs.Prelude.{◌≡◌, ◌*◌, ◌<◌, ◌≤◌, ◌++◌, [], ◌∷◌, OnOk, OnErr, IsTrue, IfSome, nat_le};
 ghost use Rattle.std.specs.List.{find, list_all};
 ghost use Rattle.cl_text.specs.Beginnings.{PutsPart};
-ghost use Rattle.cl_picture.specs.{Pieces.{spelled, print}, Window.IsPictureWindow, Axis.{is_step, axis_step, tick_at, axis_line, tick_pieces, tick_line, tick_lines, axis}, Inner.Axis.IsAxis};
+ghost use Rattle.cl_picture.specs.{Pieces.{pieces_text, print}, Window.IsPictureWindow, Axis.{is_step, axis_step, tick_at, axis_line, tick_pieces, tick_line, tick_lines, axis}, Inner.Axis.IsAxis};
 
 use crate::pieces::{Piece, put_line, put_pieces};
 use crate::window::{MOST_WINDOW, Window};
@@ -135,9 +135,9 @@ fn put_lines(text: &mut Text, window: Window, axis: Axis, bottom: u64) -> Result
 /// Puts the stroke of a tick.
 fn put_tick_line(text: &mut Text, window: Window, bottom: u64, tick: u64) -> Result<(), NoMemory>
     requires { IsPictureWindow window }
-    ensures ok { OnOk result (text.new ≡ text.old ++ spelled (tick_pieces window bottom tick)) }
+    ensures ok { OnOk result (text.new ≡ text.old ++ pieces_text (tick_pieces window bottom tick)) }
     ensures err { OnErr result
-        (PutsPart text.old text.new (spelled (tick_pieces window bottom tick))) }
+        (PutsPart text.old text.new (pieces_text (tick_pieces window bottom tick))) }
 {
     put_pieces(
         text,

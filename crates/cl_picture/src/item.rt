@@ -2,7 +2,7 @@
 //! sides of bars are lengths.
 
 /// What a row shows for the ticks `from..to`: a part of a stretch, or the band of a job.
-#[derive(Clone, Copy, Debug, PartialEq, Eq)]
+#[derive(Clone, Copy, PartialEq, Eq)]
 pub struct Item {
     /// The job, counted from 0.
     pub job: u64,
@@ -14,7 +14,7 @@ pub struct Item {
 }
 
 /// What is known of an item besides its job and its ticks.
-#[derive(Clone, Copy, Debug, PartialEq, Eq)]
+#[derive(Clone, Copy, PartialEq, Eq)]
 pub enum Rest {
     /// The runnable that a part executes, as its place in the task.
     Part {
@@ -30,7 +30,7 @@ pub enum Rest {
 }
 
 /// The end of the last item of a bar.
-#[derive(Clone, Copy, Debug, PartialEq, Eq)]
+#[derive(Clone, Copy, PartialEq, Eq)]
 pub struct End {
     /// The job, counted from 0.
     pub job: u64,
@@ -38,7 +38,7 @@ pub struct End {
 }
 
 /// A bar that shows one item or several. Its sides are lengths.
-#[derive(Clone, Copy, Debug, PartialEq, Eq)]
+#[derive(Clone, Copy, PartialEq, Eq)]
 pub struct Bar {
     pub left: u64,
     pub right: u64,

@@ -1,7 +1,7 @@
 //! Lines of a picture, made of pieces: words of the format, numbers and names.
 ghost use Rattle.std.specs.Prelude.{◌≡◌, ◌++◌, [], ◌∷◌, map, OnOk, OnErr};
 ghost use Rattle.cl_text.specs.Beginnings.{PutsPart};
-ghost use Rattle.cl_picture.specs.Pieces.{piece_of, piece_text, spelled, print};
+ghost use Rattle.cl_picture.specs.Pieces.{piece_of, piece_text, pieces_text, print};
 
 use cl_text::Text;
 use cl_time::NoMemory;
@@ -34,8 +34,8 @@ fn put_piece(text: &mut Text, piece: &Piece<'_>) -> Result<(), NoMemory>
 /// `NoMemory` comes where there is no memory for the longer text. After `NoMemory` the text ends
 /// with a prefix of the pieces.
 pub fn put_pieces(text: &mut Text, pieces: &[Piece<'_>]) -> Result<(), NoMemory>
-    ensures ok { OnOk result (text.new ≡ text.old ++ spelled (map piece_of pieces.now)) }
-    ensures err { OnErr result (PutsPart text.old text.new (spelled (map piece_of pieces.now))) }
+    ensures ok { OnOk result (text.new ≡ text.old ++ pieces_text (map piece_of pieces.now)) }
+    ensures err { OnErr result (PutsPart text.old text.new (pieces_text (map piece_of pieces.now))) }
 {
     for piece in pieces {
         put_piece(text, piece)?;

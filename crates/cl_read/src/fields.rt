@@ -2,7 +2,7 @@
 //! have.
 ghost use Rattle.toml.specs.View.{table_view};
 ghost use Rattle.cl_model.specs.{declared.{task.AccessKind.TheVariants.Explicit, chain.{LengthKind.TheVariants.Reaction, RequirementKind.TheVariants.Length}}, Reading.{Checks.{a_name, a_number, a_boolean, a_word, required, optional, field_checks}, Meanings.{text_at, number_at}}};
-ghost use Rattle.cl_model.specs.{Reading.{Meanings.{number_or, number_if, is_set, word_at}, Tables.{access_words, requirement_words}}, Answers.Answers};
+ghost use Rattle.cl_model.specs.{Reading.{Meanings.{number_or, number_if, is_set, word_at}, Tables.{access_words, requirement_kind_words}}, Answers.Answers};
 ghost use Rattle.cl_read.specs.Inner.Fields.{AreFieldsFound};
 
 use crate::keys::Fields;
@@ -110,8 +110,8 @@ pub(crate) fn requirement_kind(
     requires { AreFieldsFound fields.now }
     ensures { let ms = table_view fields.now.table.now in
         Answers result
-        (field_checks place ms (required key (a_word (requirement_words version))))
-        (word_at (requirement_words version) (Length Reaction) key ms) }
+        (field_checks place ms (required key (a_word (requirement_kind_words version))))
+        (word_at (requirement_kind_words version) (Length Reaction) key ms) }
 {
     let place = place.at_key(key);
     match fields.value_at(key) {

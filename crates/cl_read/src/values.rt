@@ -2,7 +2,7 @@
 ghost use Rattle.std.specs.Prelude.{◌≡◌, unwrap_or, IfOk, IfErr, List};
 ghost use Rattle.toml.specs.{Data.{Members, table}, View.{view, table_view}};
 ghost use Rattle.cl_model.specs.{declared.{place.Place.Place as Spot, refusal.Refusal.Refusal, task.AccessKind.TheVariants.Explicit, chain.{LengthKind.TheVariants.Reaction, RequirementKind.TheVariants.Length}}, Reading.Checks.{a_table, a_name, a_number, a_boolean, a_word, meaning_of}};
-ghost use Rattle.cl_model.specs.{Reading.{Meanings.{text_in, number_in, boolean_of}, Tables.{access_words, requirement_words}}, Answers.{Answers, IsFaultOf}};
+ghost use Rattle.cl_model.specs.{Reading.{Meanings.{text_in, number_in, boolean_of}, Tables.{access_words, requirement_kind_words}}, Answers.{Answers, IsFaultOf}};
 
 use cl_model::{AccessKind, Code, ModelFault, Name, Place, RequirementKind};
 use toml::{Table, Value};
@@ -81,8 +81,8 @@ pub(crate) fn requirement_kind(
 ) -> Result<RequirementKind, ModelFault>
     ensures { let d = view value.now in
         Answers result
-        (a_word (requirement_words version) place d)
-        (unwrap_or (meaning_of (requirement_words version) (text_in d)) (Length Reaction)) }
+        (a_word (requirement_kind_words version) place d)
+        (unwrap_or (meaning_of (requirement_kind_words version) (text_in d)) (Length Reaction)) }
 {
     match value {
         Value::String(word) => match RequirementKind::of_word(version, word.as_bytes()) {

@@ -2,8 +2,8 @@
 use Rattle.std.proofs.Common.{◌≡◌, ℕ, ◌<◌, List, [], ◌∷◌, ◌++◌, length, get_or, map, None, sym, ap, ◌∙◌, codes}
 use Rattle.std.proofs.lemmas.List.{get_or_default, append_assoc}
 use Rattle.std.proofs.Math.ListN.{length-map}
-use Rattle.cl_model.specs.{declared.{model.SystemModel.SystemModel, chain.RequirementDef.RequirementDef, group.Group.Group}, Validity.IsValid, Kinds.requirement_word}
-use Rattle.cl_runs.specs.{TaskTiming.System, SystemOf.{system_of, timing_of}, Requirements.{no_requirement, requirement_at}}
+use Rattle.cl_model.specs.{declared.{model.SystemModel.SystemModel, chain.RequirementDef.RequirementDef, group.Group.Group}, Validity.IsValid, Kinds.requirement_word, ByNumber.{no_requirement, requirement_at}}
+use Rattle.cl_runs.specs.{TaskTiming.System, SystemOf.{system_of, timing_of}}
 use Rattle.cl_bound.specs.{declared.answer.TaskAnswer.TaskAnswer, Answers.{answers_of, answer_to, answer_at}}
 use Rattle.cl_bound.specs.declared.answer.TaskAnswer.TheVariants as task
 use Rattle.cl_analyse.specs.{declared.findings.{ChainAnswer.ChainAnswer, ExactAnswer.ExactAnswer, Verdict.Verdict, Findings.Findings}, Verdicts.{verdict_of, verdict_at}, ChainAnswers.{chain_answer_of, chain_answer_at, exact_answer_at}, Findings.AreFindings}

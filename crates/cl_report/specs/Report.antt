@@ -2,8 +2,8 @@
 use Rattle.std.specs.Prelude.{◌≡◌, ℕ, List, [], ◌++◌, length, slice_index, codes, decimal, Some, None}
 use Rattle.std.specs.List.{flat_map, range_with_len}
 use Rattle.cl_text.specs.Line.{line}
-use Rattle.cl_model.specs.{declared.{model.SystemModel.SystemModel, chain.{LengthKind.{LengthKind, TheVariants.{Reaction, Age, Reduced}}, RequirementDef.RequirementDef}}, Kinds.{length_word, requirement_word}, ByNumber.{task_at, deadline_of, chain_at}, Groups.{group_at, groups_at}}
-use Rattle.cl_runs.specs.Requirements.{requirement_at}
+use Rattle.cl_model.specs.{declared.{model.SystemModel.SystemModel, chain.{LengthKind.{LengthKind, TheVariants.{Reaction, Age, Reduced}}, RequirementDef.RequirementDef}}, Kinds.{length_word, requirement_word}, ByNumber.{task_at, deadline_of, chain_at, requirement_at}, Groups.group_at}
+use Rattle.cl_model.specs.Groups.{groups_at}
 use Rattle.cl_hop.specs.Bounds.{Lengths}
 use Rattle.cl_bound.specs.{declared.answer.TaskAnswer.TaskAnswer, Answers.answer_at}
 use Rattle.cl_bound.specs.declared.answer.TaskAnswer.TheVariants as task

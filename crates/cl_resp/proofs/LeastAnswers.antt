@@ -8,7 +8,7 @@ use Rattle.std.proofs.lemmas.List.FromFn.{get_or-range_with_len, length-range_wi
 use Rattle.cl_runs.proofs.FirstFound.{first_found, none_passes}
 use Rattle.cl_stim.specs.Phase.{IsPhase, last_arrival, arrives_at}
 use Rattle.cl_stim.proofs.{ArrivalTests.{arrives_from_test, test_from_arrival}, PhaseSteps.last_before}
-use Rattle.cl_resp.specs.Asked.{Asked, holds_within, beginnings_of, is_answered, suffices, least_response, EndsBy, AnswersWithin, IsLeastResponse, ComesRound}
+use Rattle.cl_resp.specs.Asked.{Asked, holds_within, beginnings_of, is_answered, suffices, least_response, EndsBy, AnswersWithin, IsLeastResponse, AskedComesRound}
 use Rattle.cl_resp.proofs.{LeastRanges.{each_passes, all_pass, one_passes, some_passes, each_of_them_passes, all_of_them_pass}, LeastMoved.{Answered, all_answered}}
 
 -- ---- numbers about an arrival, how long ago the one before it was, and where a window begins
@@ -115,7 +115,7 @@ module _ (asked : Asked) (phase : IsPhase asked.arrivals) (response : ℕ) (arri
 
 -- ---- all arrivals
 
-module _ (asked : Asked) (comes : ComesRound asked) (response : ℕ) where
+module _ (asked : Asked) (comes : AskedComesRound asked) (response : ℕ) where
   -- where a response suffices, all arrivals are answered within it
   pub answers_from_test : suffices asked response ≡ true → AnswersWithin asked response
   unfolding suffices
@@ -148,7 +148,7 @@ answers_later asked response later le answers arrival start arrives begins =
 
 -- ---- the least
 
-module _ (asked : Asked) (comes : ComesRound asked) where
+module _ (asked : Asked) (comes : AskedComesRound asked) where
   fails_at : (response place : ℕ) → 1 + place ≡ response → place < asked.deadline
       → suffices asked (get_or (range_with_len 1 asked.deadline) place 0) ≡ false → suffices asked response ≡ false
   fails_at response place is within fails =

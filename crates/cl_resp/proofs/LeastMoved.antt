@@ -6,7 +6,7 @@ use Rattle.std.proofs.lemmas.Int.{ints}
 use Rattle.std.proofs.lemmas.Nat.{div-add-mod', mod_below}
 use Rattle.cl_stim.specs.{declared.phase.Phase.Phase, Phase.{IsPhase, IsArrivalOf, last_arrival}}
 use Rattle.cl_stim.proofs.PhaseSteps.{last_arrives, last_before, last_after, last_moved}
-use Rattle.cl_resp.specs.Asked.{Asked, MayBegin, EndsBy, AnswersWithin, ComesRound}
+use Rattle.cl_resp.specs.Asked.{Asked, MayBegin, EndsBy, AnswersWithin, AskedComesRound}
 
 -- from wherever the window of a job of this arrival may begin, one ends within the response
 abbrev pub Answered : Asked → (response : ℕ) → (arrival : ℤ) → Type 0
@@ -19,7 +19,7 @@ pub record ComesIn (asked : Asked) (ticks : ℕ) : Type 0 where
 
 -- ---- whole cycles
 
-module _ (asked : Asked) (comes : ComesRound asked) where
+module _ (asked : Asked) (comes : AskedComesRound asked) where
   demand_round : (cycles : ℕ) (start later : ℤ) (width : ℕ) → later ≡ (start +ℤ pos (cycles * asked.cycle)) → asked.demand later width ≡ asked.demand start width
   demand_round zero start later width is =
       let same : later ≡ start = omega (arith, ints, is) in ap (λ z. asked.demand z width) same
@@ -128,7 +128,7 @@ module _ (asked : Asked) (phase : IsPhase asked.arrivals) (ticks : ℕ) (comes :
 
 -- ---- all arrivals
 
-module _ (asked : Asked) (comes : ComesRound asked) (response : ℕ)
+module _ (asked : Asked) (comes : AskedComesRound asked) (response : ℕ)
     (first : (moment : ℕ) → moment < asked.cycle → IsArrivalOf asked.arrivals (pos moment) → Answered asked response (pos moment)) where
   from_first : (moment : ℕ) → IsArrivalOf asked.arrivals (pos moment) → Answered asked response (pos moment)
   from_first moment arrives =

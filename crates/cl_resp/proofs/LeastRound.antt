@@ -13,7 +13,7 @@ use Rattle.cl_stim.specs.{declared.phase.Phase.Phase, Phase.{IsPhase, phase_of}}
 use Rattle.cl_stim.proofs.PatternPhases.{phase_is}
 use Rattle.cl_cycle.specs.{Counts.{arrivals_from, each_moment}, Cycles.{is_one_of, in_phase_above, cycle_of}, Promises.ComesRound as TaskComesRound}
 use Rattle.cl_cycle.proofs.{CountedTicks.comes_round as arrivals_come_round, CycleMembers.{cycle_positive, own_divides, members_come_round}}
-use Rattle.cl_resp.specs.{Asked.ComesRound, ByPhase.{phase_if, released_by, time_by, demand_by, asked_by_phase}, Question.lower_block_of}
+use Rattle.cl_resp.specs.{Asked.AskedComesRound, ByPhase.{phase_if, released_by, time_by, demand_by, asked_by_phase}, Question.lower_block_of}
 
 -- what each adds is the same, and so is the sum
 same_sums : {X : Type 0} (f g : X → ℕ) (xs : List X) → ((x : X) → f x ≡ g x) → sum_by f xs ≡ sum_by g xs
@@ -86,7 +86,7 @@ module _ (system : System) (sound : IsSound system) (task : ℕ) (is : task < le
   demand_round own start width = ap (λ n. lower_block_of system (timing_at system task) + own + n)
       (same_sums (time_by system in_phase (start +ℤ pos cycle) width) (time_by system in_phase start width) (tasks_above system task) (time_round start width))
 
-  pub comes_round : (own : ℕ) → ComesRound (asked_by_phase system task own)
+  pub comes_round : (own : ℕ) → AskedComesRound (asked_by_phase system task own)
   comes_round own = record {
     phase = arrivals_come (timing_at system task).pattern (sound.tasks task is).pattern (phase_of (timing_at system task).pattern) refl;
     some = cycle_positive system sound task is;
@@ -95,5 +95,5 @@ module _ (system : System) (sound : IsSound system) (task : ℕ) (is : task < le
   }
 
 -- in the words of the law
-pub asked_comes_round : (system : System) → IsSound system → (task own : ℕ) → task < length system.tasks → ComesRound (asked_by_phase system task own)
+pub asked_comes_round : (system : System) → IsSound system → (task own : ℕ) → task < length system.tasks → AskedComesRound (asked_by_phase system task own)
 asked_comes_round system sound task own is = comes_round system sound task is own

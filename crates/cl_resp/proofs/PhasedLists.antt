@@ -9,14 +9,14 @@ use Rattle.cl_model.proofs.{AddedTasks.maps_agree_on, CoreTasks.below_known, Mov
 use Rattle.cl_runs.specs.{TaskTiming.{Timing, timing_at}, SystemOf.{timing_of, system_of}, Priorities.{is_above, tasks_above}, ExecutionTimes.greatest_execution}
 use Rattle.cl_runs.proofs.ModelSystem.{timing_is, count_is}
 use Rattle.cl_cycle.specs.Counts.{arrivals_of}
-use Rattle.cl_resp.specs.{declared.{question.Above.Above, phased.InPhase.InPhase}, Question.taken_by, Inner.Counted.{counts, counted_above, by_phase_of, in_phase_with, beside_with}}
+use Rattle.cl_resp.specs.{declared.{question.Above.Above, phased.InPhase.InPhase}, Question.taken_by, Inner.Counted.{counts_in_phase, counted_above, by_phase_of, in_phase_with, beside_with}}
 use Rattle.cl_resp.proofs.{Filters.filter-both, Questions.{is_higher, above_at, numbers_above, time_is, taken_is}}
 
 -- whether another task has a higher priority and is in phase, or isn't, by number
 abbrev pub is_counted : SystemModel → (in_phase : Bool) → (cycle : List ℕ) → (task other : ℕ) → Bool
-is_counted model in_phase cycle task other = is_higher model task other && counts in_phase cycle other
+is_counted model in_phase cycle task other = is_higher model task other && counts_in_phase in_phase cycle other
 
--- a task as it counts by its phase, by number
+-- a task as it counts_in_phase by its phase, by number
 abbrev pub by_phase_at : SystemModel → (other : ℕ) → InPhase
 by_phase_at model other = record {
   phase = arrivals_of (tasks.stimulus_of model other);
@@ -43,8 +43,8 @@ module _ (model : SystemModel) where
   module _ (in_phase : Bool) (cycle : List ℕ) (i : ℕ) (h : i < length model.tasks) where
     -- those that count so
     pub counted_are : filter (is_counted model in_phase cycle i) (tasks_of_core model (core_of model i)) ≡ counted_above (system_of model) in_phase cycle i
-    counted_are = filter-both (is_higher model i) (counts in_phase cycle) (tasks_of_core model (core_of model i))
-        ∙ ap (filter (counts in_phase cycle)) (numbers_are i h)
+    counted_are = filter-both (is_higher model i) (counts_in_phase in_phase cycle) (tasks_of_core model (core_of model i))
+        ∙ ap (filter (counts_in_phase in_phase cycle)) (numbers_are i h)
 
     pub counted_known : All (λ j. j < length model.tasks) (filter (is_counted model in_phase cycle i) (tasks_of_core model (core_of model i)))
     counted_known = All-filter (is_counted model in_phase cycle i) (λ j. j < length model.tasks) (tasks_of_core model (core_of model i))

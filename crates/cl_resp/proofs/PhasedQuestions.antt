@@ -15,7 +15,7 @@ use Rattle.cl_stim.proofs.StimulusKinds.{least_few}
 use Rattle.cl_cycle.specs.{Counts.{arrivals_of, each_moment}, Cycles.{is_one_of, in_phase_above, cycle_of}, Promises.ComesRound}
 use Rattle.cl_cycle.proofs.{CycleMembers.{cycle_positive as some, own_divides as own, members_come_round as in_phase}, CycleLengths.cycle_short as short}
 use Rattle.cl_resp.specs.{declared.{question.{Above.Above, Block.TheVariants.OfLower, Question.Question}, phased.{InPhase.InPhase, PhasedQuestion.PhasedQuestion}}, Question.{lower_block_of, taken_by, tight_question_of, IsAboveInRange, IsQuestionInRange}, Response.demand, ByPhase.time_by}
-use Rattle.cl_resp.specs.{ByPhase.demand_by, Inner.{Phased.{time_in_phase, IsInPhaseInRange, IsPhasedInRange, IsPhasedQuestionOf}, Counted.{counts, counted_above, by_phase_of, in_phase_with, beside_with}}}
+use Rattle.cl_resp.specs.{ByPhase.demand_by, Inner.{Phased.{time_in_phase, IsInPhaseInRange, IsPhasedInRange, IsPhasedQuestionOf}, Counted.{counts_in_phase, counted_above, by_phase_of, in_phase_with, beside_with}}}
 use Rattle.cl_resp.proofs.{Filters.shorter, PhasedLists.{numbers_are, numbers_known}, PhasedSums.{takes, both_sums, above_by_number, all_stand_beside}, Questions.{time_is, questions_in_range}}
 
 -- a question with these parts
@@ -97,7 +97,7 @@ module _ (model : SystemModel) (valid : IsValid model) (i : ℕ) (h : i < length
       (ap (λ (xs : List Above). length xs) (above_by_number system i) ∙ length-map (tasks_above system i) (λ other. taken_by (timing_at system other))) tight.few_above
 
   fewer : (so : Bool) → length (counted_above system so cycle i) < MOST_TASKS_OF_CORE
-  fewer so = omega (arith, shorter (counts so cycle) (tasks_above system i), few_above)
+  fewer so = omega (arith, shorter (counts_in_phase so cycle) (tasks_above system i), few_above)
 
   each_above : All (λ other. IsAboveInRange (timing_at system i).deadline (taken_by (timing_at system other))) (tasks_above system i)
   unfolding tight_question_of
@@ -110,7 +110,7 @@ module _ (model : SystemModel) (valid : IsValid model) (i : ℕ) (h : i < length
 
   all_beside : All (IsAboveInRange (timing_at system i).deadline) (beside_with system cycle i)
   all_beside = All-map (IsAboveInRange (timing_at system i).deadline) (λ other. taken_by (timing_at system other)) (counted_above system false cycle i)
-      (All-filter (counts false cycle) (λ other. IsAboveInRange (timing_at system i).deadline (taken_by (timing_at system other))) (tasks_above system i) each_above)
+      (All-filter (counts_in_phase false cycle) (λ other. IsAboveInRange (timing_at system i).deadline (taken_by (timing_at system other))) (tasks_above system i) each_above)
 
   -- with so much work of the task itself
   pub beside_in_range : (time : ℕ) → 1 ≤ time → time ≤ MOST_RUNNABLES * MOST_TICKS
@@ -127,7 +127,7 @@ module _ (model : SystemModel) (valid : IsValid model) (i : ℕ) (h : i < length
     above = all_beside;
   }
 
-  one_in_phase : (other : ℕ) → other < length model.tasks → counts true cycle other ≡ true → IsInPhaseInRange (cycle_of system i) (by_phase_of system other)
+  one_in_phase : (other : ℕ) → other < length model.tasks → counts_in_phase true cycle other ≡ true → IsInPhaseInRange (cycle_of system i) (by_phase_of system other)
   one_in_phase other is_task passes =
       let timing : timing_at system other ≡ timing_of model (task_at model other) = timing_is model other is_task in
       let round = in_phase system is_sound i known other (sym (same other) ∙ passes) in
@@ -149,8 +149,8 @@ module _ (model : SystemModel) (valid : IsValid model) (i : ℕ) (h : i < length
   pub all_in_phase : All (IsInPhaseInRange (cycle_of system i)) (in_phase_with system cycle i)
   all_in_phase = All-map (IsInPhaseInRange (cycle_of system i)) (by_phase_of system) (counted_above system true cycle i)
       (λ k d lt. one_in_phase _
-      (All-filter (counts true cycle) (λ j. j < length model.tasks) (tasks_above system i) above_known k d lt)
-      (filter_passes (counts true cycle) (tasks_above system i) k d lt))
+      (All-filter (counts_in_phase true cycle) (λ j. j < length model.tasks) (tasks_above system i) above_known k d lt)
+      (filter_passes (counts_in_phase true cycle) (tasks_above system i) k d lt))
 
   abbrev the_question : (time : ℕ) → PhasedQuestion
   the_question time = phased_with (arrivals_of (timing_at system i).pattern) (cycle_of system i) (in_phase_with system cycle i)

@@ -13,7 +13,7 @@ use Rattle.cl_runs.specs.{TaskTiming.{Timing, System, timing_at, no_timing}, Pri
 use Rattle.cl_stim.specs.{declared.phase.Phase.Phase, AnyStimulus.kind_of, Phase.phase_of, Releases.most_releases}
 use Rattle.cl_stim.proofs.StimulusKinds.{kind_of-as_stimulus}
 use Rattle.cl_cycle.specs.{Counts.{arrivals_from, arrivals_of, each_moment}, Cycles.{is_one_of, in_phase_above, cycle_of}, Promises.ComesRound}
-use Rattle.cl_resp.specs.{declared.{question.Above.Above, phased.InPhase.InPhase}, Question.{taken_by, tight_question_of}, ByPhase.{phase_if, released_by, time_by}, Inner.{Phased.time_in_phase, Counted.{counts, counted_above, by_phase_of, in_phase_with, beside_with}}}
+use Rattle.cl_resp.specs.{declared.{question.Above.Above, phased.InPhase.InPhase}, Question.{taken_by, tight_question_of}, ByPhase.{phase_if, released_by, time_by}, Inner.{Phased.time_in_phase, Counted.{counts_in_phase, counted_above, by_phase_of, in_phase_with, beside_with}}}
 use Rattle.cl_resp.proofs.Filters.{by_number, filter-map, same_pass}
 
 -- the sum over a mapped list
@@ -57,7 +57,7 @@ module _ (system : System) (task : ℕ) (cycle : List ℕ) (same : (other : ℕ)
   phased = is_one_of (in_phase_above system task)
 
   module _ (start : ℤ) (width : ℕ) where
-    one_in_phase : (other : ℕ) → counts true cycle other ≡ true
+    one_in_phase : (other : ℕ) → counts_in_phase true cycle other ≡ true
         → time_in_phase start width (by_phase_of system other) ≡ time_by system phased start width other
     one_in_phase other passes =
         let is : phased other ≡ true = sym (same other) ∙ passes in
@@ -65,7 +65,7 @@ module _ (system : System) (task : ℕ) (cycle : List ℕ) (same : (other : ℕ)
         ap (λ released. released * greatest_execution (timing_at system other))
         (released_in_phase (timing_at system other).pattern round.phase round.fixed (phased other) is start width)
 
-    one_beside : (other : ℕ) → counts false cycle other ≡ true → takes width (taken_by (timing_at system other)) ≡ time_by system phased start width other
+    one_beside : (other : ℕ) → counts_in_phase false cycle other ≡ true → takes width (taken_by (timing_at system other)) ≡ time_by system phased start width other
     one_beside other passes =
         let is : phased other ≡ false = sym (same other) ∙ not_true (is_one_of cycle other) passes in
         takes_is width (timing_at system other)
@@ -78,9 +78,9 @@ module _ (system : System) (task : ℕ) (cycle : List ℕ) (same : (other : ℕ)
         let numbers = counted_above system true cycle task in
         sum_mapped (time_in_phase start width) (by_phase_of system) numbers
         ∙ sums_agree_on (λ other. time_in_phase start width (by_phase_of system other)) (time_by system phased start width) numbers
-        (All-weaker (λ other. counts true cycle other ≡ true)
+        (All-weaker (λ other. counts_in_phase true cycle other ≡ true)
         (λ other. time_in_phase start width (by_phase_of system other) ≡ time_by system phased start width other) one_in_phase numbers
-        (filter_passes (counts true cycle) (tasks_above system task)))
+        (filter_passes (counts_in_phase true cycle) (tasks_above system task)))
 
     all_beside : sum_by (takes width) (beside_with system cycle task)
         ≡ sum_by (time_by system phased start width) (counted_above system false cycle task)
@@ -89,16 +89,16 @@ module _ (system : System) (task : ℕ) (cycle : List ℕ) (same : (other : ℕ)
         let taken : ℕ → Above = λ other. taken_by (timing_at system other) in
         sum_mapped (takes width) taken numbers
         ∙ sums_agree_on (λ other. takes width (taken other)) (time_by system phased start width) numbers
-        (All-weaker (λ other. counts false cycle other ≡ true)
+        (All-weaker (λ other. counts_in_phase false cycle other ≡ true)
         (λ other. takes width (taken other) ≡ time_by system phased start width other) one_beside numbers
-        (filter_passes (counts false cycle) (tasks_above system task)))
+        (filter_passes (counts_in_phase false cycle) (tasks_above system task)))
 
     -- those beside and those in phase take what all above do
     pub both_sums : sum_by (time_in_phase start width) (in_phase_with system cycle task) + sum_by (takes width) (beside_with system cycle task)
         ≡ sum_by (time_by system phased start width) (tasks_above system task)
     both_sums = ap (λ n. n + sum_by (takes width) (beside_with system cycle task)) all_in_phase
         ∙ ap (λ n. sum_by (time_by system phased start width) (counted_above system true cycle task) + n) all_beside
-        ∙ sum_by-filter_both (counts true cycle) (counts false cycle) (λ other. refl) (time_by system phased start width) (tasks_above system task)
+        ∙ sum_by-filter_both (counts_in_phase true cycle) (counts_in_phase false cycle) (λ other. refl) (time_by system phased start width) (tasks_above system task)
 
 -- ---- the tight question
 
@@ -113,11 +113,11 @@ above_by_number system task =
     ∙ map-map taken_by (timing_at system) (tasks_above system task)
 
 -- where none is in phase, the others are all
-none_counted : (cycle : List ℕ) (f : ℕ → InPhase) (xs : List ℕ) → map f (filter (counts true cycle) xs) ≡ [] → filter (counts false cycle) xs ≡ xs
+none_counted : (cycle : List ℕ) (f : ℕ → InPhase) (xs : List ℕ) → map f (filter (counts_in_phase true cycle) xs) ≡ [] → filter (counts_in_phase false cycle) xs ≡ xs
 none_counted cycle f [] none = refl
 none_counted cycle f (x ∷ xs) none =
-    elim (is_one_of cycle x) as (λ b. map f (cond b (x ∷ filter (counts true cycle) xs) (filter (counts true cycle) xs)) ≡ []
-    → cond (not b) (x ∷ filter (counts false cycle) xs) (filter (counts false cycle) xs) ≡ x ∷ xs) [
+    elim (is_one_of cycle x) as (λ b. map f (cond b (x ∷ filter (counts_in_phase true cycle) xs) (filter (counts_in_phase true cycle) xs)) ≡ []
+    → cond (not b) (x ∷ filter (counts_in_phase false cycle) xs) (filter (counts_in_phase false cycle) xs) ≡ x ∷ xs) [
       | true ↦ λ e. cc
       | false ↦ λ e. ap (λ ys. x ∷ ys) (none_counted cycle f xs e)
     ] none
@@ -132,4 +132,4 @@ all_stand_beside system cycle task none =
 pub same_in_phase : (system : System) (one other : List ℕ) → ((task : ℕ) → is_one_of one task ≡ is_one_of other task) → (task : ℕ)
     → in_phase_with system one task ≡ in_phase_with system other task
 same_in_phase system one other same task =
-    ap (map (by_phase_of system)) (same_pass (counts true one) (counts true other) same (tasks_above system task))
+    ap (map (by_phase_of system)) (same_pass (counts_in_phase true one) (counts_in_phase true other) same (tasks_above system task))

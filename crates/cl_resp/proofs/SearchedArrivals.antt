@@ -10,7 +10,7 @@ use Rattle.std.proofs.lemmas.Nat.Gcd.{le_of_dvd}
 use Rattle.cl_model.specs.declared.limits.TheConstants.{MOST_TICKS}
 use Rattle.cl_stim.specs.Phase.{IsPhase, IsArrivalOf, first_arrival, last_arrival, arrives_at}
 use Rattle.cl_stim.proofs.{ArrivalTests.{arrives_from_test, test_from_arrival}, PhaseSteps.{first_arrives, first_after, first_before, first_within, last_before}}
-use Rattle.cl_resp.specs.{declared.phased.PhasedQuestion.PhasedQuestion, Asked.{Asked, holds_within, is_answered, suffices, least_response, MayBegin, EndsBy}, Inner.{Phased.{asked_of, IsPhasedInRange, IsLeastFrom, ServesAnywhere}, Searching.{IsReached, NoneSuffices, AnsweredAfter}}}
+use Rattle.cl_resp.specs.{declared.phased.PhasedQuestion.PhasedQuestion, Asked.{Asked, holds_within, is_answered, suffices, least_response, MayBegin, EndsBy}, Inner.{Phased.{asked_of, IsPhasedInRange, IsLeastFrom, ServesAnywhere}, Searching.{IsLeastSoFar, NoneSuffices, AnsweredAfter}}}
 use Rattle.cl_resp.specs.Inner.Searching.{AnsweredBefore, NoneReleased, IsAfter}
 use Rattle.cl_resp.proofs.{Windows.demand_some, SearchedStarts.{ends_later, holds_by, none_ends_before, least_ends, answered_at, answered_from, unanswered, suffices_from, fails_at, reached_is_least}, SearchedReleases.{ends_a_tick_earlier, holds_back, after_last}}
 
@@ -26,9 +26,9 @@ module _ (asked : Asked) (is : IsPhase asked.arrivals) where
   module _ (arrival : ℤ) (after : pos 0 ≤ℤ arrival) (before : arrival <ℤ pos asked.cycle) (arrives : arrives_at asked.arrivals arrival ≡ true)
       (start : ℤ) (may : MayBegin asked arrival start) where
     -- no response suffices that is less than the least window leaves
-    pub reached_more : (longest longer width : ℕ) → IsReached asked longest → IsLeastFrom asked start width
+    pub reached_more : (longest longer width : ℕ) → IsLeastSoFar asked longest → IsLeastFrom asked start width
         → (start +ℤ pos width) ≤ℤ (arrival +ℤ pos asked.deadline)
-        → (longer ≡ longest) ⊎ ((start +ℤ pos width) ≡ (arrival +ℤ pos longer)) → IsReached asked longer
+        → (longer ≡ longest) ⊎ ((start +ℤ pos width) ≡ (arrival +ℤ pos longer)) → IsLeastSoFar asked longer
     reached_more longest longer width reached window by_deadline (inl same) = record {
       by_deadline = omega (arith, same, reached.by_deadline);
       least = λ lesser below. reached.least lesser (omega (arith, same, below));
@@ -132,7 +132,7 @@ module _ (asked : Asked) (is : IsPhase asked.arrivals) where
     some_response (suc response) enough = omega arith
 
     -- a response that suffices is the least where no lesser one does
-    pub suffices_first : (response : ℕ) → IsReached asked response → suffices asked response ≡ true → least_response asked ≡ Some response
+    pub suffices_first : (response : ℕ) → IsLeastSoFar asked response → suffices asked response ≡ true → least_response asked ≡ Some response
     suffices_first response reached enough = reached_is_least asked response (some_response response enough) reached enough
 
     -- where no window holds even what the tasks that aren't in phase ask, no response suffices
@@ -148,7 +148,7 @@ module _ (asked : Asked) (is : IsPhase asked.arrivals) where
         narrow first jitter width response deadline by_deadline by = omega (arith, ints, by_deadline, by)
 
 -- at first no response is known to be too short
-pub none_reached : (asked : Asked) → IsReached asked 0
+pub none_reached : (asked : Asked) → IsLeastSoFar asked 0
 none_reached asked = record {
   by_deadline = omega arith;
   least = λ lesser below. absurd (omega (arith, below));

@@ -5,7 +5,7 @@ use Rattle.std.proofs.lemmas.Int.{ints, by_lt_z}
 use Rattle.std.proofs.Math.IntN.{one, *ℤ-one}
 use Rattle.cl_stim.specs.Phase.{IsArrivalOf, last_arrival, arrives_at}
 use Rattle.cl_stim.proofs.{ArrivalTests.test_from_arrival, PhaseSteps.{last_before, last_after}}
-use Rattle.cl_resp.specs.{declared.phased.PhasedQuestion.PhasedQuestion, Asked.{suffices, MayBegin, EndsBy}, Inner.{Phased.{asked_of, IsPhasedInRange, IsLeastFrom}, Searching.{AreWithin, NoneReleased, IsAfter}}}
+use Rattle.cl_resp.specs.{declared.phased.PhasedQuestion.PhasedQuestion, Asked.{suffices, MayBegin, EndsBy}, Inner.{Phased.{asked_of, IsPhasedInRange, IsLeastFrom}, Searching.{WindowsWithin, NoneReleased, IsAfter}}}
 use Rattle.cl_resp.proofs.{Windows.demand_some, SearchedStarts.{ends_later, least_ends, answered_from, suffices_from}, SearchedReleases.{ends_a_tick_earlier, holds_back, after_last}}
 
 -- once a number is the number
@@ -54,7 +54,7 @@ module _ (question : PhasedQuestion) (range : IsPhasedInRange question) (each : 
       same moment start last jitter none at after by = omega (arith, ints, none, at, after, by)
 
   -- where the windows of all moments are within a response, it suffices
-  pub moments_suffice : (response : ℕ) (after : ℤ) → after <ℤ pos 0 → AreWithin (asked_of question) response after (pos question.cycle) → suffices (asked_of question) response ≡ true
+  pub moments_suffice : (response : ℕ) (after : ℤ) → after <ℤ pos 0 → WindowsWithin (asked_of question) response after (pos question.cycle) → suffices (asked_of question) response ≡ true
   moments_suffice response after first within =
       suffices_from (asked_of question) response (λ moment below arrives.
       answered_from (asked_of question) range.arrivals.is_phase (pos moment) response (λ start may.
@@ -63,7 +63,7 @@ module _ (question : PhasedQuestion) (range : IsPhasedInRange question) (each : 
 
 module _ (question : PhasedQuestion) where
   -- none begins between a moment and the next
-  pub none_within : (response : ℕ) (after before : ℤ) → before ≤ℤ (after +ℤ pos 1) → AreWithin (asked_of question) response after before
+  pub none_within : (response : ℕ) (after before : ℤ) → before ≤ℤ (after +ℤ pos 1) → WindowsWithin (asked_of question) response after before
   none_within response after before next start later earlier = absurd (omega (arith, ints, next, later, earlier))
 
   -- a window as wide as the longest that holds its own demand ends within it
@@ -84,9 +84,9 @@ module _ (question : PhasedQuestion) where
 
   -- the search at its next start
   pub within_further : (longest longer : ℕ) (start end next other : ℤ) (last : Option ℤ)
-      → AreWithin (asked_of question) longest start end → longest ≤ longer → EndsBy (asked_of question) start (start +ℤ pos longer)
+      → WindowsWithin (asked_of question) longest start end → longest ≤ longer → EndsBy (asked_of question) start (start +ℤ pos longer)
       → next ≡ unwrap_or last other → ((moment : ℤ) → IsAfter last moment → moment <ℤ start → NoneReleased question moment)
-      → AreWithin (asked_of question) longer next end
+      → WindowsWithin (asked_of question) longer next end
   within_further longest longer start end next other last within more here is none begin after before =
       by_lt_z start begin
       (λ later. ends_later (asked_of question) begin (begin +ℤ pos longest) (begin +ℤ pos longer) (omega (arith, ints, more)) (within begin later before))

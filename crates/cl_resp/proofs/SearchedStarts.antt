@@ -6,7 +6,7 @@ use Rattle.std.proofs.lemmas.Bool.{cases_lt, leb-true, le-leb}
 use Rattle.std.proofs.lemmas.Int.{ints}
 use Rattle.cl_stim.specs.Phase.{IsPhase, last_arrival, arrives_at}
 use Rattle.cl_stim.proofs.PhaseSteps.{last_before}
-use Rattle.cl_resp.specs.{Asked.{Asked, holds_within, beginnings_of, is_answered, suffices, least_response, MayBegin, EndsBy}, Inner.{Phased.IsLeastFrom, Searching.{IsReached, NoneSuffices}}}
+use Rattle.cl_resp.specs.{Asked.{Asked, holds_within, beginnings_of, is_answered, suffices, least_response, MayBegin, EndsBy}, Inner.{Phased.IsLeastFrom, Searching.{IsLeastSoFar, NoneSuffices}}}
 use Rattle.cl_resp.proofs.SearchedLists.{all_pass, each_passes, one_passes, passing, first_is, first_is_none, all_among_pass, one_among_fails}
 
 -- how long before a moment another is
@@ -142,7 +142,7 @@ module _ (asked : Asked) where
   -- ---- the least one
 
   -- a response that suffices is the least where no lesser one does
-  pub reached_is_least : (response : ℕ) → 1 ≤ response → IsReached asked response → suffices asked response ≡ true → least_response asked ≡ Some response
+  pub reached_is_least : (response : ℕ) → 1 ≤ response → IsLeastSoFar asked response → suffices asked response ≡ true → least_response asked ≡ Some response
   unfolding least_response
   reached_is_least response some reached enough =
       first_is (λ response. suffices asked response) 1 asked.deadline response some (omega (arith, reached.by_deadline)) enough

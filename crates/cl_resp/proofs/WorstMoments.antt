@@ -10,8 +10,8 @@ use Rattle.std.proofs.lemmas.List.Elements.{All-head, All-tail, All-nil, All-con
 use Rattle.std.proofs.lemmas.Nat.{div-add-mod', mod_below}
 use Rattle.cl_stim.specs.Phase.{IsPhase, IsArrivalOf, first_arrival, arrives_at}
 use Rattle.cl_stim.proofs.{ArrivalTests.{arrives_from_test, test_from_arrival}, PhaseSteps.{first_arrives, first_after}}
-use Rattle.cl_resp.specs.{declared.phased.{InPhase.InPhase, PhasedQuestion.PhasedQuestion}, Asked.{suffices, EndsBy, ComesRound}, Worst.{lies_in, is_released_in, PassesOrZero}, Inner.{Phased.{asked_of, IsInPhaseInRange, IsPhasedInRange}, Releases.is_latest_release, Worst.IsCandidateOf}}
-use Rattle.cl_resp.specs.Inner.Worst.{AreCandidatesAnswered}
+use Rattle.cl_resp.specs.{declared.phased.{InPhase.InPhase, PhasedQuestion.PhasedQuestion}, Asked.{suffices, EndsBy, AskedComesRound}, Worst.{lies_in, is_released_in, PassesOrZero}, Inner.{Phased.{asked_of, IsInPhaseInRange, IsPhasedInRange}, Releases.is_latest_release}}
+use Rattle.cl_resp.specs.Inner.Worst.{IsCandidateOf, AreCandidatesAnswered}
 use Rattle.cl_resp.proofs.{LeastMoved.{whole_cycles, arrives_later, arrives_earlier, ends_later as ends_moved, ends_earlier as ends_moved_back}, SearchedStarts.{back_to, ends_later}, SearchedReleases.ends_a_tick_earlier, SearchedMoments.moments_suffice, WorstCandidates.lies_there}
 use Rattle.cl_resp.proofs.WorstCandidates.{follows_0}
 
@@ -41,7 +41,7 @@ or_true : (a b : Bool) → b ≡ true → (a || b) ≡ true
 or_true true b is = refl
 or_true false b is = is
 
-module _ (question : PhasedQuestion) (comes : ComesRound (asked_of question)) (within : ℕ) where
+module _ (question : PhasedQuestion) (comes : AskedComesRound (asked_of question)) (within : ℕ) where
   -- a window that begins at a moment ends within so many ticks
   abbrev Ends : ℤ → Type 0
   Ends moment = EndsBy (asked_of question) moment (moment +ℤ pos within)

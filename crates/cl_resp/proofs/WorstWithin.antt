@@ -9,11 +9,11 @@ use Rattle.cl_runs.specs.{SystemOf.system_of, TaskTiming.{System, timing_at, IsS
 use Rattle.cl_runs.proofs.ModelSystem.{count_is, system_sound}
 use Rattle.cl_stim.specs.{declared.phase.Phase.Phase, Phase.phase_of}
 use Rattle.cl_cycle.specs.Counts.{each_moment}
-use Rattle.cl_resp.specs.{declared.phased.PhasedQuestion.PhasedQuestion, Asked.{Asked, suffices, least_response, ComesRound}, ByPhase.{asked_by_phase, response_by_phase}, Response.Response, Worst.{less_than, within_of}, Inner.Phased.{asked_of, IsPhasedQuestionOf, IsPhasedInRange}}
+use Rattle.cl_resp.specs.{declared.phased.PhasedQuestion.PhasedQuestion, Asked.{Asked, suffices, least_response, AskedComesRound}, ByPhase.{asked_by_phase, response_by_phase}, Response.Response, Worst.{less_than, within_of}, Inner.Phased.{asked_of, IsPhasedQuestionOf, IsPhasedInRange}}
 use Rattle.cl_resp.specs.Inner.Worst.{AreCandidatesAnswered}
 use Rattle.cl_resp.proofs.{LeastAnswers.{answers_from_test, found_is_least, none_answers}, LeastRound.asked_comes_round, SearchedArrivals.some_response, WorstMoments.candidates_suffice, WorstTasks.{same_asked, within_least}}
 
-module _ (asked : Asked) (comes : ComesRound asked) where
+module _ (asked : Asked) (comes : AskedComesRound asked) where
   -- what suffices takes a tick or more
   some : (response : ℕ) → suffices asked response ≡ true → 1 ≤ response
   some response enough = some_response asked comes.phase comes.arrivals comes.some response enough
@@ -49,8 +49,8 @@ module _ (model : SystemModel) (valid : IsValid model) (task : ℕ) (known : tas
   in_system = subst (λ n. task < n) (sym (count_is model)) known
 
   -- what its question asks comes round
-  comes : ComesRound (asked_of question)
-  comes = subst ComesRound (sym same) (asked_comes_round system (system_sound model valid) task own in_system)
+  comes : AskedComesRound (asked_of question)
+  comes = subst AskedComesRound (sym same) (asked_comes_round system (system_sound model valid) task own in_system)
 
   -- not all arrivals are answered
   pub arrivals_lack : suffices (asked_of question) (within_of system task) ≡ true → ⊥

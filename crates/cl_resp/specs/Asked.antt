@@ -68,7 +68,7 @@ pub record IsLeastResponse (asked : Asked) (response : ℕ) : Type 0 where
   pub least : (lesser : ℕ) → 1 ≤ lesser → AnswersWithin asked lesser → response ≤ lesser
 
 -- all that is asked comes round with the cycle
-pub record ComesRound (asked : Asked) : Type 0 where
+pub record AskedComesRound (asked : Asked) : Type 0 where
   pub phase : IsPhase asked.arrivals
   pub some : 1 ≤ asked.cycle
   pub arrivals : asked.arrivals.period ∣ asked.cycle

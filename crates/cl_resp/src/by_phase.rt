@@ -6,7 +6,7 @@ ghost use Rattle.cl_runs.specs.{Responses.AlwaysFinishesWithin, SystemOf.system_
 ghost use Rattle.cl_stim.specs.{Integers.IsIntegerWithin, Phase.arrives_at};
 ghost use Rattle.cl_cycle.specs.Promises.{IsCycleOf};
 ghost use Rattle.cl_resp.specs.{Asked.{is_answered, suffices, least_response}, ByPhase.{response_by_phase, response_through, IsSettledByPhase}, Clear.greatest_behind, Promises.AlwaysFinishesThrough, Question.{tight_question_of, IsQuestionInRange}, Response.busy_window};
-ghost use Rattle.cl_resp.specs.Inner.{Phased.{asked_of, IsPhasedInRange, ServesAnywhere}, Searching.{IsSearchOf, IsReached, NoneSuffices}};
+ghost use Rattle.cl_resp.specs.Inner.{Phased.{asked_of, IsPhasedInRange, ServesAnywhere}, Searching.{IsSearchOf, IsLeastSoFar, NoneSuffices}};
 
 use crate::answering::settle;
 use crate::asking::ask_tight;
@@ -65,9 +65,9 @@ impl Search {
         requires search { IsSearchOf question.now self.now }
         requires arrival { (pos 0 ≤ℤ arrival) × (arrival <ℤ pos question.now.cycle) }
         requires arrives { arrives_at question.now.arrivals arrival ≡ true }
-        requires so_far { IsReached (asked_of question.now) so_far }
+        requires so_far { IsLeastSoFar (asked_of question.now) so_far }
         ensures { MatchOption result (NoneSuffices (asked_of question.now))
-            (λ longest. IsReached (asked_of question.now) longest × (so_far ≤ longest)
+            (λ longest. IsLeastSoFar (asked_of question.now) longest × (so_far ≤ longest)
             × (is_answered (asked_of question.now) longest arrival ≡ true)) }
     {
         let before = question.arrivals.last_arrival(arrival - 1);

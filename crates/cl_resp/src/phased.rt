@@ -3,7 +3,7 @@ ghost use Rattle.std.specs.Prelude.{◌≡◌, ◌<◌, ◌≤◌, ◌&&◌, nat
 ghost use Rattle.cl_model.specs.{ByNumber.task_at, Validity.IsValid};
 ghost use Rattle.cl_runs.specs.{SystemOf.system_of, TaskTiming.timing_at, ExecutionTimes.greatest_execution};
 ghost use Rattle.cl_cycle.specs.{Cycles.in_phase_above, Promises.IsCycleOf};
-ghost use Rattle.cl_resp.specs.{Question.tight_question_of, Inner.{Phased.{IsPhasedInRange, IsPhasedQuestionOf}, Counted.{counts, in_phase_with, beside_with}}};
+ghost use Rattle.cl_resp.specs.{Question.tight_question_of, Inner.{Phased.{IsPhasedInRange, IsPhasedQuestionOf}, Counted.{counts_in_phase, in_phase_with, beside_with}}};
 
 use crate::asking::block_of;
 use crate::question::{Above, Block, Question};
@@ -14,7 +14,7 @@ use cl_time::NoMemory;
 use std::alloc::Global;
 
 /// A task in phase above another.
-#[derive(Clone, Copy, Debug, PartialEq, Eq)]
+#[derive(Clone, Copy, PartialEq, Eq)]
 pub(crate) struct InPhase {
     /// When its jobs arrive.
     pub(crate) phase: Phase,
@@ -25,7 +25,7 @@ pub(crate) struct InPhase {
 }
 
 /// What the response of a task by phases depends on.
-#[derive(Debug, PartialEq, Eq, Drop)]
+#[derive(PartialEq, Eq, Drop)]
 pub(crate) struct PhasedQuestion {
     /// When jobs of the task can arrive.
     pub(crate) arrivals: Phase,
@@ -100,7 +100,7 @@ fn is_counted(model: &ValidModel, task: u32, other: u32, cycle: &Cycle, in_phase
     requires task { task < length model.now.tasks }
     requires other { other < length model.now.tasks }
     ensures { result ≡ nat_lt (task_at model.now task).priority (task_at model.now other).priority
-        && counts in_phase cycle.now.in_phase.items other }
+        && counts_in_phase in_phase cycle.now.in_phase.items other }
 {
     model.task(other).priority > model.task(task).priority && cycle.has(other) == in_phase
 }

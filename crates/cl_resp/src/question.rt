@@ -3,7 +3,7 @@ use cl_model::List;
 use cl_stim::AnyStimulus;
 
 /// A task of higher priority on the same core, as far as the response of a task depends on it.
-#[derive(Debug, PartialEq, Eq, Drop)]
+#[derive(PartialEq, Eq, Drop)]
 pub struct Above {
     /// The pattern of its arrivals.
     pub stimulus: AnyStimulus,
@@ -13,7 +13,7 @@ pub struct Above {
 
 /// Which whole runnables, once begun, block a task in its question. Those of higher priority never
 /// do.
-#[derive(Clone, Copy, Debug, PartialEq, Eq)]
+#[derive(Clone, Copy, PartialEq, Eq)]
 pub enum Block {
     /// Those of tasks of lower priority on its core, as in the tight question.
     OfLower,
@@ -22,7 +22,7 @@ pub enum Block {
 }
 
 /// What the response of a task depends on.
-#[derive(Debug, PartialEq, Eq, Drop)]
+#[derive(PartialEq, Eq, Drop)]
 pub struct Question {
     /// The greatest execution time of a job of the task.
     pub time: u64,

@@ -16,7 +16,7 @@ use std::sync::ledger::Ledger;
 /// How far the search for the window of a task came: no lesser width holds its demand, nor the
 /// demand of a task below it on its core whose block and execution time add up to at least the
 /// block of this task.
-#[derive(Clone, Copy, Debug, PartialEq, Eq)]
+#[derive(Clone, Copy, PartialEq, Eq)]
 pub struct Reached {
     task: u32,
     block: u64,

@@ -5,7 +5,7 @@ use std::marker::Model;
 
 /// The window and the response of a settled task, whose jobs always finish by its deadline. Only
 /// `respond`, `respond_from`, `respond_below` and `settle` make one.
-#[derive(Clone, Copy, Debug, PartialEq, Eq)]
+#[derive(Clone, Copy, PartialEq, Eq)]
 pub struct Settled {
     pub(crate) window: u64,
     pub(crate) response: u64,
@@ -39,5 +39,5 @@ impl Settled {
 
 /// The answer for a late task: no window, from 1 tick up to the deadline less the jitter, holds its
 /// own demand.
-#[derive(Clone, Copy, Debug, PartialEq, Eq)]
+#[derive(Clone, Copy, PartialEq, Eq)]
 pub struct Late;

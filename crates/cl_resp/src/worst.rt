@@ -15,7 +15,7 @@ use cl_time::NoMemory;
 use std::alloc::Global;
 
 /// A window of a task: which arrival it is of, and where it begins.
-#[derive(Clone, Copy, Debug, PartialEq, Eq)]
+#[derive(Clone, Copy, PartialEq, Eq)]
 pub struct WorstWindow {
     /// When the job arrives, in ticks.
     pub arrival: i64,

@@ -1,18 +1,10 @@
 -- What it means that a requirement of a model is kept or broken, and that a model is in time. Times are in ticks.
-use Rattle.std.specs.Prelude.{◌≡◌, ℕ, ◌+◌, ◌<◌, ◌≤◌, List, [], length, slice_index_or, unwrap_or}
+use Rattle.std.specs.Prelude.{◌≡◌, ℕ, ◌+◌, ◌<◌, ◌≤◌, List, [], length, unwrap_or}
 use Rattle.cl_model.specs.{declared.{chain.{LengthKind.{LengthKind, TheVariants.{Reaction, Age, Reduced}}, RequirementKind.{RequirementKind, TheVariants.{Length, Delay}}, RequirementDef.RequirementDef}, group.Group.Group, model.SystemModel.SystemModel}, ByNumber.chain_named}
-use Rattle.cl_model.specs.Groups.{groups_at}
+use Rattle.cl_model.specs.{ByNumber.requirement_at, Groups.groups_at}
 use Rattle.cl_runs.specs.{TaskTiming.{System, timing_at}, SystemOf.system_of, Table.job_at, Run.{Run, jobs_of}, Legal.IsLegal, Moments.JobFinishes, Chains.{Moments, JobChain, chain_length, IsForwardChain, IsAgeChain, IsReducedChain}, RunChains.run_moments, Delays.IsDelayChain}
 
 -- ---- requirements by number
-
--- stands for a requirement past the last one
-unfoldable pub no_requirement : RequirementDef
-no_requirement = record { name = []; chain = []; kind = Length Reaction; most = 0 }
-
--- the requirement of a number
-abbrev pub requirement_at : SystemModel → ℕ → RequirementDef
-requirement_at model i = slice_index_or model.requirements i no_requirement
 
 -- the number of the chain that a requirement names
 abbrev pub required_chain : SystemModel → RequirementDef → ℕ

@@ -3,7 +3,7 @@ use crate::times::Times;
 use cl_model::List;
 
 /// One job of a task.
-#[derive(Debug, Drop)]
+#[derive(Drop)]
 pub struct Job {
     /// The tick at which it arrives.
     pub arrival: u64,
@@ -14,7 +14,7 @@ pub struct Job {
 }
 
 /// The jobs of each task that arrive in the first `ticks` ticks.
-#[derive(Debug, Drop)]
+#[derive(Drop)]
 pub struct JobTable {
     /// The number of ticks.
     pub ticks: u64,

@@ -11,7 +11,7 @@ use std::marker::Model;
 const FEW_TIMES: usize = 3;
 
 /// The execution time of each runnable of a job, in order, in ticks.
-#[derive(Debug, Drop)]
+#[derive(Drop)]
 pub struct Times {
     times: SmallVec<u64, FEW_TIMES>,
 }

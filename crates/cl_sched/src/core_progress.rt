@@ -13,7 +13,7 @@ use std::alloc::Global;
 
 /// The first tasks of a core that are known to wait: the next job of each is released at `until` or
 /// later.
-#[derive(Clone, Copy, Debug, PartialEq, Eq)]
+#[derive(Clone, Copy, PartialEq, Eq)]
 pub struct Waiting {
     /// How many tasks of the core wait, from the first one on.
     pub count: usize,
@@ -35,7 +35,7 @@ pub struct CoreProgress {
 }
 
 /// What a core does next: a task of it runs, or none where the core idles, until a tick.
-#[derive(Clone, Copy, Debug, PartialEq, Eq)]
+#[derive(Clone, Copy, PartialEq, Eq)]
 pub struct Next {
     /// The number of the task that runs, or none where the core idles.
     pub who: Option<u32>,

@@ -7,7 +7,7 @@ use cl_runs::Job;
 
 /// How far a task has come: the runnable of its first unfinished job that it executes next, and how
 /// much of it is left.
-#[derive(Clone, Copy, Debug, PartialEq, Eq)]
+#[derive(Clone, Copy, PartialEq, Eq)]
 pub struct Progress {
     /// The number of the task.
     pub task: u32,

@@ -12,7 +12,7 @@ use crate::sporadic::Sporadic;
 use cl_model::StimulusKind;
 
 /// A stimulus of any kind.
-#[derive(Clone, Copy, Debug, PartialEq, Eq)]
+#[derive(Clone, Copy, PartialEq, Eq)]
 pub enum AnyStimulus {
     Periodic(Periodic),
     Sporadic(Sporadic),

@@ -11,7 +11,7 @@ use std::marker::Model;
 
 /// A pattern of bursts of `count` jobs: job `q * count + r`, where `r < count`, arrives at
 /// `offset + q * period + r * distance`, and each is released as it arrives.
-#[derive(Clone, Copy, Debug, PartialEq, Eq)]
+#[derive(Clone, Copy, PartialEq, Eq)]
 pub struct Burst {
     pub(crate) period: u64,
     pub(crate) offset: u64,

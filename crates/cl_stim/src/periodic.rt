@@ -9,7 +9,7 @@ use std::marker::Model;
 
 /// A periodic pattern: job `k` arrives at `offset + k * period`, and is released at most `jitter`
 /// later.
-#[derive(Clone, Copy, Debug, PartialEq, Eq)]
+#[derive(Clone, Copy, PartialEq, Eq)]
 pub struct Periodic {
     pub(crate) period: u64,
     pub(crate) offset: u64,

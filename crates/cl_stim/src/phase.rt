@@ -7,7 +7,7 @@ use cl_model::StimulusKind;
 
 /// Fixed arrivals: in each period those of a burst, or a single one. The periods go on without a
 /// beginning or an end.
-#[derive(Clone, Copy, Debug, PartialEq, Eq)]
+#[derive(Clone, Copy, PartialEq, Eq)]
 pub struct Phase {
     pub period: u64,
     /// When the first period begins.

@@ -11,7 +11,7 @@ use std::marker::Model;
 
 /// A sporadic pattern: jobs arrive at distances from `least` to `greatest`, and each is released as
 /// it arrives.
-#[derive(Clone, Copy, Debug, PartialEq, Eq)]
+#[derive(Clone, Copy, PartialEq, Eq)]
 pub struct Sporadic {
     pub(crate) least: u64,
     pub(crate) greatest: u64,

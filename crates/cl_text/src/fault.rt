@@ -2,7 +2,7 @@
 use cl_time::NoMemory;
 
 /// Why a text isn't read as a list of lines.
-#[derive(Clone, Copy, Debug, PartialEq, Eq)]
+#[derive(Clone, Copy, PartialEq, Eq)]
 pub enum LinesFault {
     /// The text isn't such a list: `line` is its first bad line, counted from 1.
     BadLine { line: u64 },

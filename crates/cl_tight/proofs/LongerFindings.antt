@@ -4,8 +4,8 @@ use Rattle.std.specs.Prelude.{All}
 use Rattle.std.proofs.lemmas.Bool.{false≢true, cases_lt, leb-true, le-leb}
 use Rattle.std.proofs.lemmas.List.{length-map, get_or-map, get_or_past}
 use Rattle.cl_model.specs.{declared.{chain.{ChainDef.ChainDef, LengthKind.TheVariants.{Reaction, Age, Reduced}, RequirementDef.RequirementDef, RequirementKind.{RequirementKind, TheVariants.{Length, Delay}}}, group.Group.Group, model.SystemModel.SystemModel}, Groups.groups_at}
-use Rattle.cl_model.specs.{Named.index_of, Validity.IsValid}
-use Rattle.cl_runs.specs.{Requirements.{no_requirement, requirement_at, required_chain}, SystemOf.system_of, TaskTiming.{System, IsSound}}
+use Rattle.cl_model.specs.{Named.index_of, Validity.IsValid, ByNumber.{no_requirement, requirement_at}}
+use Rattle.cl_runs.specs.{Requirements.required_chain, SystemOf.system_of, TaskTiming.{System, IsSound}}
 use Rattle.cl_runs.proofs.ModelSystem.{system_sound}
 use Rattle.cl_hop.specs.{Bounds.Lengths, NoGreater.AreNoGreater}
 use Rattle.cl_resp.specs.LesserTimes.{TakesNoMore}

@@ -12,7 +12,7 @@ use Rattle.cl_model.proofs.Greatest.{greatest_least}
 use Rattle.cl_runs.specs.{TaskTiming.{System, timing_at}, Chains.{last_group, first_job}}
 use Rattle.cl_hop.specs.Bounds.{Lengths}
 use Rattle.cl_exact.specs.{declared.witness.Witness.Witness, Hyperperiod.period_of, ExactLengths.{second_arrival, HaveAllBegun, IsSteadyForward, chain_of, IsExact, Witnesses, AreExactLengths}, SteadyJobs.all_begun, Ties.AreTied}
-use Rattle.cl_phase.specs.{declared.stop.Stop.Stop, Pace.{previous, ComesRound}, Walks.{pace_at, onward, last_place, arrival_at_last}, TightBounds.{length_from, reduced_from, bounds_from}}
+use Rattle.cl_phase.specs.{declared.stop.Stop.Stop, Pace.{previous, PaceComesRound}, Walks.{pace_at, onward, last_place, arrival_at_last}, TightBounds.{length_from, reduced_from, bounds_from}}
 use Rattle.cl_phase.proofs.{Stepped.IsStepped, WalksMove.{length_moves, reduced_moves}, EachPhase.{AreOverAll, each_phase}}
 use Rattle.cl_tight.specs.ExactBounds.{AreLengthsOf}
 use Rattle.cl_tight.proofs.{IdealSteps.{offset_of, read_in, ReadsAt, next_read, job_arrives, turn_is, last_is_read}, IdealWalks.{AreIdealStops, reads_at, walk_is_chain}, IdealChains.has_chain}
@@ -78,10 +78,10 @@ module _ (system : System) (groups : List Group) (stops : List Stop) (stepped : 
       late_turn system (group place) ticks (ticks / period_of system (group place)) (some_turns place within)
       (div-mul_cancel (period_of system (group place)) (turns.whole place within)) least arrival arrives.turn (turn_is system (group place) arrival arrives)
 
-  round : (times place : ℕ) → place < length stops → ComesRound (times * ticks) (pace_at stops place)
+  round : (times place : ℕ) → place < length stops → PaceComesRound (times * ticks) (pace_at stops place)
   round times place within =
       let there : place < length groups = omega (arith, within, are.as_many) in
-      subst (ComesRound (times * ticks)) (sym (are.paces place there))
+      subst (PaceComesRound (times * ticks)) (sym (are.paces place there))
       (dvd_trans (period_of system (group place)) (turns.whole place there) (dvd-mul_left ticks times))
 
   -- walks from a late read last as long

@@ -5,8 +5,8 @@ use Rattle.std.proofs.Math.ListN.{length-map}
 use Rattle.std.proofs.lemmas.Bool.{and_parts}
 use Rattle.std.proofs.lemmas.List.{get_or-map}
 use Rattle.std.proofs.lemmas.List.Sums.{AllPass-from_list_all}
-use Rattle.cl_model.specs.{declared.model.SystemModel.SystemModel, Validity.IsValid}
-use Rattle.cl_runs.specs.{TaskTiming.System, SystemOf.system_of, Requirements.{no_requirement, requirement_at, IsKept, IsInTime}}
+use Rattle.cl_model.specs.{declared.model.SystemModel.SystemModel, Validity.IsValid, ByNumber.{no_requirement, requirement_at}}
+use Rattle.cl_runs.specs.{TaskTiming.System, SystemOf.system_of, Requirements.{IsKept, IsInTime}}
 use Rattle.cl_runs.proofs.TimelyTasks.{meets_deadlines}
 use Rattle.cl_bound.specs.{declared.answer.TaskAnswer.TaskAnswer, Answers.{answer_at, is_late}}
 use Rattle.cl_bound.specs.declared.answer.TaskAnswer.TheVariants as answer

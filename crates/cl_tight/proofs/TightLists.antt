@@ -4,9 +4,9 @@ use Rattle.std.proofs.lemmas.List.{take_more, get_or-map}
 use Rattle.std.specs.List.{range_with_len}
 use Rattle.std.proofs.lemmas.List.FromFn.{map-range_with_len_more}
 use Rattle.std.proofs.Math.ListN.{length-map}
-use Rattle.cl_model.specs.{declared.{model.SystemModel.SystemModel, chain.{ChainDef.ChainDef, RequirementDef.RequirementDef}}, ByNumber.no_chain, Groups.{steps_of, groups_of}, Named.chain_names, Validity.{IsValid, requirement_check}}
+use Rattle.cl_model.specs.{declared.{model.SystemModel.SystemModel, chain.{ChainDef.ChainDef, RequirementDef.RequirementDef}}, ByNumber.{no_chain, no_requirement, requirement_at}, Groups.{steps_of, groups_of}, Named.chain_names, Validity.{IsValid, requirement_check}}
 use Rattle.cl_model.proofs.{NamePlaces.place_within, PassedChecks.requirements_pass, Refused.{each_none, unless_none}}
-use Rattle.cl_runs.specs.{SystemOf.system_of, Requirements.{required_chain, no_requirement, requirement_at}}
+use Rattle.cl_runs.specs.{SystemOf.system_of, Requirements.required_chain}
 use Rattle.cl_runs.proofs.ModelSystem.{count_is}
 use Rattle.cl_hop.specs.Bounds.{Lengths}
 use Rattle.cl_bound.specs.{declared.answer.TaskAnswer.TaskAnswer, Answers.answer_at}

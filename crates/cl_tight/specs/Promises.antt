@@ -1,7 +1,7 @@
 -- What tight findings promise: in every legal run, of any length.
 use Rattle.std.specs.Prelude.{◌≡◌, ℕ, ◌<◌, ◌≤◌, length}
-use Rattle.cl_model.specs.{declared.model.SystemModel.SystemModel, Groups.groups_at}
-use Rattle.cl_runs.specs.{SystemOf.system_of, Requirements.{requirement_at, IsKept, IsBrokenBy}, Responses.AlwaysFinishesWithin}
+use Rattle.cl_model.specs.{declared.model.SystemModel.SystemModel, Groups.groups_at, ByNumber.requirement_at}
+use Rattle.cl_runs.specs.{SystemOf.system_of, Requirements.{IsKept, IsBrokenBy}, Responses.AlwaysFinishesWithin}
 use Rattle.cl_hop.specs.{Bounds.Lengths, NoGreater.AreNoGreater, Promises.AreSafe}
 use Rattle.cl_resp.specs.Response.{Response}
 use Rattle.cl_bound.specs.{declared.answer.TaskAnswer.TheVariants.Settled, Answers.answer_at}

@@ -4,7 +4,7 @@ use cl_bound::TaskAnswer;
 use cl_model::List;
 
 /// What is found of a model by responses by phases and tight bounds.
-#[derive(Debug, PartialEq, Eq, Drop)]
+#[derive(PartialEq, Eq, Drop)]
 pub struct TightFindings {
     /// The answer by phases for each task, in file order.
     pub tasks: List<TaskAnswer>,

@@ -3,7 +3,7 @@ use Rattle.std.proofs.Common.{◌≡◌, ◌↔◌, ℕ, List, Some, Ok, sym, ap
 use Rattle.cl_model.specs.{declared.model.SystemModel.SystemModel, Reading.model_of}
 use Rattle.cl_engine.specs.{declared.{files.TheConstants.FILE_LIMIT, outcome.Outcome.Outcome}, Content.Model, Fetched.{Fetched, Bytes, told_fetch}, Files.model_file, Outcome.{ReadsTo, OpensTo, HasOutcome}}
 use Rattle.cl_engine.proofs.{Outcomes.done_model, Tellings.told_bytes}
-use Rattle.cl_top.specs.{declared.command.Command.TheVariants.{Analyse, Migrate}, Commands.{meaning_of, commands, IsOutcomeOf}, Migrated.IsMigratedFile}
+use Rattle.cl_top.specs.{declared.command.Command.TheVariants.{Analyse, Migrate}, Commands.{command_meaning, commands, IsOutcomeOf}, Migrated.IsMigratedFile}
 
 -- what comes next of a model that is analysed
 abbrev analysed : SystemModel → Outcome → Type 0
@@ -17,7 +17,7 @@ analysis_of fetch bytes model found gave means =
 
 pub analysed_alike : (contents migrated : ℕ → List ℕ) (found : Outcome) → IsMigratedFile contents migrated
     → HasOutcome commands (Some Analyse) (told_fetch contents) found ↔ HasOutcome commands (Some Analyse) (told_fetch migrated) found
-unfolding meaning_of
+unfolding command_meaning
 analysed_alike contents migrated found file =
     let (bytes, gave, (model, means, written)) = done_model file.outcome (inl file.done) (told_fetch contents model_file) (λ model. IsOutcomeOf Migrate (Model model)) file.comes in
     let first = analysis_of (told_fetch contents model_file) bytes model found gave means.means in

@@ -4,11 +4,11 @@ use Rattle.std.proofs.Common.{◌≡◌, ℕ, List, [], ◌∷◌, Option, Some,
 use Rattle.cl_io.specs.{Shelf.{Held, Content as Told, MayBe}, Sink.appended}
 use Rattle.cl_engine.specs.{declared.{files.{Files.Files, TheConstants.FILE_LIMIT}, outcome.Outcome.Outcome, status.TheConstants.{DONE, EDITS_REFUSED, NOT_VERIFIED}}, Calls.{ShelfCall, SinkCall}, Content.{Content, Nothing, Bytes as Whole, Model, ModelAnd, Fits, Means}, Fetched.Fetched}
 use Rattle.cl_engine.specs.{Fetched.{Bytes, MayGive, EachFile, WasFetched, TellsFiles, told_fetch}, Files.{File, model_file, files_named, word}, SoundCall.IsSoundCall, Language.{IsOfContent, files_asked, files_of as files_of_words}, Outcome.{words_refused, MayEnd, HasOutcome}, Run.ComesAs}
-use Rattle.cl_engine.specs.Run.{ComesTo, IsCarriedOut, Ends}
+use Rattle.cl_engine.specs.Run.{ComesTo, IsCarriedOut, CallEnds}
 use Rattle.cl_engine.specs.declared.files.Files.TheVariants as files
 use Rattle.cl_engine.proofs.{Openings.valid_read, Outcomes.{IsOpened, SomeOutcome, some_opens, same_opens, IsOfTold, opens_of_told, done_model, no_want}, Tellings.{IsToldOwn, told_own}}
 use Rattle.cl_verify.specs.VerifyText.{IsVerifyTextOf}
-use Rattle.cl_top.specs.{declared.command.Command.{Command, TheVariants.{Analyse, Verify, Edit}}, Command.{files_read, command_of}, Commands.{meaning_of, commands, IsOutcomeOf, TakesStepsOf, SaysTheSame, Edit.StopsSafely}, Headline.{HasReported, HasReportedSome}, Meaning.promises}
+use Rattle.cl_top.specs.{declared.command.Command.{Command, TheVariants.{Analyse, Verify, Edit}}, Command.{files_read, command_of}, Commands.{command_meaning, commands, IsOutcomeOf, TakesStepsOf, SaysTheSame, Edit.StopsSafely}, Headline.{HasReported, HasReportedSome}, Meaning.promises}
 use Rattle.cl_top.specs.{Meaning.promises_of_both, Printed.{HasPrinted, HasPrintedSafe, HasStoppedSafely, HasDecided, ProvesInTime}}
 use Rattle.cl_top.proofs.{WellMeant.{meant_well, asks_for_few, Edit.stops_safely}, SafeReport.safe_report_of}
 
@@ -28,7 +28,7 @@ same_of : (asked : Option Command) (gave : File → Fetched) (one other : Outcom
 same_of None gave one other h k = h ∙ sym k
 same_of (Some asked) gave one other h k =
     let well = meant_well asked in
-    same_opens (meaning_of asked).same well.equally one other gave (IsOutcomeOf asked) (λ content opened. well.once content opened one other) (files_read asked) h k
+    same_opens (command_meaning asked).same well.equally one other gave (IsOutcomeOf asked) (λ content opened. well.once content opened one other) (files_read asked) h k
 
 pub same_outcome : (words : List (List ℕ)) (gave : File → Fetched) (one other : Outcome) → HasOutcome commands (command_of words) gave one
     → HasOutcome commands (command_of words) gave other → SaysTheSame (command_of words) one other
@@ -59,7 +59,7 @@ as_asked P asked own content is none fits holds =
 
 module _ (words : List (List ℕ)) (shelf : ShelfCall) {S K : Type 0} (before after : S) (sink : SinkCall K) (steps steps_after status : ℕ)
     (kept : IsSoundCall commands words shelf before after sink steps steps_after status) where
-  carried_of : (comes : Outcome → Type 0) → IsOfContent status → Ends comes sink status → IsCarriedOut comes sink status
+  carried_of : (comes : Outcome → Type 0) → IsOfContent status → CallEnds comes sink status → IsCarriedOut comes sink status
   carried_of comes own (inl memory) = absurd (no_want status own memory.fault_status)
   carried_of comes own (inr carried) = carried
 
@@ -90,7 +90,7 @@ module _ (words : List (List ℕ)) (shelf : ShelfCall) {S K : Type 0} (before af
   refused_content seven = inr (inl (omega (arith, seven), omega (arith, seven)))
 
   stopped_content : (content : Content) → IsOpened content → (found : Outcome) → IsOutcomeOf Edit content found → found.status ≡ EDITS_REFUSED → promises_of_both StopsSafely content found.text
-  unfolding meaning_of
+  unfolding command_meaning
   stopped_content Nothing opened found is seven = absurd is
   stopped_content (Whole bytes) opened found is seven = absurd is
   stopped_content (Model model) opened found is seven = absurd is
@@ -105,7 +105,7 @@ module _ (words : List (List ℕ)) (shelf : ShelfCall) {S K : Type 0} (before af
   -- ---- what `verify` has written where something isn't met
 
   decided_content : (content : Content) → (found : Outcome) → IsOutcomeOf Verify content found → promises IsVerifyTextOf content found.text
-  unfolding meaning_of
+  unfolding command_meaning
   decided_content Nothing found is = absurd is
   decided_content (Whole bytes) found is = absurd is
   decided_content (Model model) found is = is.text_is
@@ -123,7 +123,7 @@ module _ (words : List (List ℕ)) (shelf : ShelfCall) {S K : Type 0} (before af
     pub printed_safe : (asked : Command) → command_of words ≡ Some asked → (contents : ℕ → List ℕ) → TellsFiles (files_of_words commands words) words shelf.held contents
         → HasPrintedSafe sink asked contents
     printed_safe asked is contents tells =
-        printed (inl is_done) asked is contents tells (meaning_of asked).safe
+        printed (inl is_done) asked is contents tells (command_meaning asked).safe
         (λ content opened found comes own. (meant_well asked).holds content opened found comes (own ∙ is_done))
 
     -- one file that is told
@@ -133,13 +133,13 @@ module _ (words : List (List ℕ)) (shelf : ShelfCall) {S K : Type 0} (before af
         subst (λ files. TellsFiles files words shelf.held (λ _. bytes)) (sym (ap (files_asked commands) is ∙ alone)) (tells, tt)
 
     pub proves_in_time : command_of words ≡ Some Verify → (bytes : List ℕ) → shelf.held (word words 1) ≡ Told bytes → ProvesInTime bytes
-    unfolding meaning_of
+    unfolding command_meaning
     proves_in_time is bytes tells = of_content (printed_safe Verify is (λ _. bytes) (one_told Verify is refl bytes tells))
       where
         of_content : HasPrintedSafe sink Verify (λ _. bytes) → ProvesInTime bytes
         of_content printed = of_cases printed.content printed.means printed.safe
           where
-            of_cases : (content : Content) → Means files.Model (λ _. bytes) content → (meaning_of Verify).safe content printed.text → ProvesInTime bytes
+            of_cases : (content : Content) → Means files.Model (λ _. bytes) content → (command_meaning Verify).safe content printed.text → ProvesInTime bytes
             of_cases Nothing means safe = absurd means
             of_cases (Whole whole) means safe = absurd means
             of_cases (Model model) means safe = record { model = model; means = means.means; valid = valid_read bytes model means; in_time = safe.in_time }
@@ -154,7 +154,7 @@ module _ (words : List (List ℕ)) (shelf : ShelfCall) {S K : Type 0} (before af
 
       by_whole : (found : Outcome) → ComesAs commands (Some Analyse) words shelf found → found.status ≡ DONE → sink.written sink.after ≡ appended (sink.written sink.before) found.text
           → HasReportedSome (shelf.held (word words 1)) sink
-      unfolding meaning_of
+      unfolding command_meaning
       by_whole found comes done whole =
           let (bytes, gave, (model, means, outcome)) = done_model found (inl done) (comes.gave model_file) (λ model. IsOutcomeOf Analyse (Model model)) comes.follows in
           let may = given (comes.gave model_file) bytes gave comes.files.0 in

@@ -8,7 +8,7 @@ use Rattle.cl_gen.specs.{declared.limits.TheConstants.{MOST_RUN_TICKS, MOST_EXEC
 use Rattle.cl_gen.proofs.LawfulTables.{table_ticks}
 use Rattle.cl_trace.specs.Trace.{spelled}
 use Rattle.cl_trace.proofs.{LegalTraces.legal_trace, OneTrace.{one_run, no_bad_line}, ShortTraces.short_trace}
-use Rattle.cl_top.specs.{declared.command.{TheConstants.TRACE_LIMIT, Command.TheVariants.Replay}, Commands.{meaning_of, commands, Replay.{IsReplayed, IsOfReplay}, Simulate.{IsSimulated, IsTraced}}, OfTrace.IsOfRun, Simulated.IsSimulatedFile}
+use Rattle.cl_top.specs.{declared.command.{TheConstants.TRACE_LIMIT, Command.TheVariants.Replay}, Commands.{command_meaning, commands, Replay.{IsReplayed, IsOfReplay}, Simulate.{IsSimulated, IsTraced}}, OfTrace.IsOfRun, Simulated.IsSimulatedFile}
 use Rattle.cl_engine.specs.{declared.{outcome.Outcome.Outcome, status.TheConstants.DONE}, Fetched.{Fetched, Bytes, told_fetch}, Content.MeansModel, Files.{model_file, second_file}, Outcome.{ValidatesTo, ReadsTo, OpensTo, HasOutcome}}
 use Rattle.cl_top.proofs.{CountedExecutions.table_counted, AnswersOfRuns.breaks_none}
 use Rattle.cl_engine.proofs.{Openings.valid_read, Outcomes.done_model, Tellings.told_bytes}
@@ -40,7 +40,7 @@ module _ (contents : ℕ → List ℕ) (ticks seed : ℕ) (found : Outcome) (fil
   module _ (bytes : List ℕ) (model : SystemModel) (gave : told_fetch contents model_file ≡ Bytes bytes) (means : MeansModel bytes model) (comes : IsSimulated ticks seed model file.outcome) where
     -- the trace file, opened
     opened : OpensTo 2 (told_fetch contents (second_file TRACE_LIMIT)) (IsOfReplay model) found
-    unfolding meaning_of
+    unfolding command_meaning
     opened = next_of (λ m. OpensTo 2 (told_fetch contents (second_file TRACE_LIMIT)) (IsOfReplay m)) found (told_fetch contents model_file) bytes model gave means replays
 
     of_trace : IsTraced ticks seed model file.outcome → execution_count model ticks ≤ MOST_EXECUTIONS → found.status ≡ DONE
@@ -62,7 +62,7 @@ module _ (contents : ℕ → List ℕ) (ticks seed : ℕ) (found : Outcome) (fil
     ]
 
   pub simulation_replayed : found.status ≡ DONE
-  unfolding meaning_of
+  unfolding command_meaning
   simulation_replayed =
       let (bytes, gave, (model, means, comes)) = done_model file.outcome (inl file.done) (told_fetch contents model_file) (IsSimulated ticks seed) file.comes in
       of_model bytes model gave means comes

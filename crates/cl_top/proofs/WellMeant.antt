@@ -20,16 +20,16 @@ use Rattle.cl_picture.specs.declared.window.TheConstants.{MOST_WINDOW}
 use Rattle.cl_engine.specs.{Files.file_count, declared.outcome.Outcome.Outcome}
 use Rattle.cl_model.specs.{declared.model.SystemModel.SystemModel, Validity.IsValid}
 use Rattle.cl_runs.specs.{Legal.IsLegal, Run.Run, SystemOf.system_of}
-use Rattle.cl_top.specs.{declared.{command.Command.Command, commands.help.TheConstants.VERSION}, Command.{files_read, upto, some_tasks, any_seed, whole, checking_of, with_two_numbers, with_subject, with_topic, asks_help, asks_version, by_verb, command_of, AsksForFew}, Commands.meaning_of}
-use Rattle.cl_top.specs.Commands.{of_run}
+use Rattle.cl_top.specs.{declared.{command.Command.Command, commands.help.TheConstants.VERSION}, Command.{files_read, upto, some_tasks, any_seed, whole, checking_of, with_two_numbers, with_subject, with_topic, asks_help, asks_version, by_verb, command_of, AsksForFew}}
+use Rattle.cl_top.specs.Commands.{command_meaning, of_run}
 use Rattle.cl_top.specs.declared.command.Command.TheVariants as command
 use Rattle.cl_help.specs.{declared.overview.TheConstants.HELP, Topic.about}
 use Rattle.cl_top.proofs.WellMeant.{Alone.{saying_well, generating_well, surveying_well}, Apply.applying_well, Check.checking_well, CheckFile.checking_file_well, Draw.{drawing_well, drawn_once}, Edit.editing_well, Observe.observing_well, OnModels.{analysing_well, migrating_well}}
 use Rattle.cl_top.proofs.{WellMeant.{OnModels.{cutting_well, ordering_well, headroom_well, margin_well, tightening_well, verifying_well, explaining_well}, Replay.{replaying_well, replayed_once}, Simulate.simulating_well, Why.reasoning_well, Witness.witnessing_well}, Meanings.IsMeantWell}
 use Rattle.cl_top.proofs.Words.{IsGood, whole_good, numbered_good, subject_good, topic_good}
 
-pub meant_well : (asked : Command) → IsMeantWell (files_read asked) (meaning_of asked) (AsksForFew asked)
-unfolding meaning_of AsksForFew
+pub meant_well : (asked : Command) → IsMeantWell (files_read asked) (command_meaning asked) (AsksForFew asked)
+unfolding command_meaning AsksForFew
 meant_well command.Analyse = analysing_well
 meant_well command.Migrate = migrating_well
 meant_well command.Cut = cutting_well

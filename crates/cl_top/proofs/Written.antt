@@ -9,7 +9,7 @@ use Rattle.cl_tighten.specs.Tight.{tight_text}
 use Rattle.cl_verify.specs.VerifyText.{IsVerifyTextOf}
 use Rattle.cl_engine.specs.{declared.{files.TheConstants.FILE_LIMIT, outcome.Outcome.Outcome, status.TheConstants.DONE}, Fetched.{Fetched, told_fetch}, Files.model_file, Content.Model, Outcome.{ValidatesTo, ReadsTo, OpensTo}}
 use Rattle.cl_engine.proofs.Tellings.{told_bytes}
-use Rattle.cl_top.specs.{declared.command.Command.Command, Commands.{meaning_of, IsOutcomeOf, Edit.{IsWrittenBy, IsSafelyWritten, is_verify}}, Reported.{AnswersFilesOf, IsWrittenAsBy}, Verified.verify_status}
+use Rattle.cl_top.specs.{declared.command.Command.Command, Commands.{command_meaning, IsOutcomeOf, Edit.{IsWrittenBy, IsSafelyWritten, is_verify}}, Reported.{AnswersFilesOf, IsWrittenAsBy}, Verified.verify_status}
 use Rattle.cl_top.specs.declared.command.Command.TheVariants as command
 use Rattle.cl_top.proofs.SafeReport.{some_report, safe_report_of, safe_tight_report, some_verify_text}
 
@@ -33,15 +33,15 @@ module _ (asked : Command) (model : SystemModel) (valid : IsValid model) (found 
 
 module _ (model : SystemModel) (valid : IsValid model) (text : List ℕ) where
   as_analysed : IsReportOf model text → AnswersFilesOf command.Analyse model DONE text
-  unfolding meaning_of
+  unfolding command_meaning
   as_analysed is = comes_of_files command.Analyse model valid (record { status = DONE; text = text }) (record { status_is = refl; text_is = is })
 
   as_tightened : text ≡ tight_text model → AnswersFilesOf command.Tighten model DONE text
-  unfolding meaning_of
+  unfolding command_meaning
   as_tightened is = comes_of_files command.Tighten model valid (record { status = DONE; text = text }) (record { status_is = refl; text_is = is })
 
   as_verified : IsVerifyTextOf model text → AnswersFilesOf command.Verify model (verify_status model) text
-  unfolding meaning_of
+  unfolding command_meaning
   as_verified is = comes_of_files command.Verify model valid (record { status = verify_status model; text = text }) (record { status_is = refl; text_is = is })
 
 -- ---- each edit

@@ -21,8 +21,8 @@ of_either each both other content = of_bytes each (of_both both other content) c
 -- ---- steps
 
 -- it takes none
-abbrev pub no_step : Content → (before after : ℕ) → Type 0
-no_step content before after = after ≤ before
+abbrev pub takes_no_step : Content → (before after : ℕ) → Type 0
+takes_no_step content before after = after ≤ before
 
 -- no limit is promised
 abbrev pub any_steps : Content → (before after : ℕ) → Type 0

@@ -5,7 +5,7 @@ use Rattle.cl_model.specs.{declared.model.SystemModel.SystemModel, Reading.model
 use Rattle.cl_runs.specs.Requirements.{IsInTime}
 use Rattle.cl_verify.specs.VerifyText.{IsVerifyTextOf}
 use Rattle.cl_engine.specs.{Calls.SinkCall, Content.{Content, Means}}
-use Rattle.cl_top.specs.{declared.command.Command.Command, Command.files_read, Commands.{meaning_of, Edit.StopsSafely}, Meaning.{promises, promises_of_both}}
+use Rattle.cl_top.specs.{declared.command.Command.Command, Command.files_read, Commands.{command_meaning, Edit.StopsSafely}, Meaning.{promises, promises_of_both}}
 use Rattle.cl_top.specs.declared.command.Command.TheVariants as command
 
 -- Files of these bytes hold something, this is promised of the text for that, and the text was written, and nothing else.
@@ -18,7 +18,7 @@ pub record HasPrinted {K : Type 0} (sink : SinkCall K) (asked : Command) (conten
 
 -- so it is with what the command promises of its text
 abbrev pub HasPrintedSafe : {K : Type 0} → SinkCall K → (asked : Command) (contents : ℕ → List ℕ) → Type 0
-HasPrintedSafe sink asked contents = HasPrinted sink asked contents (meaning_of asked).safe
+HasPrintedSafe sink asked contents = HasPrinted sink asked contents (command_meaning asked).safe
 
 -- and with what `edit` promises where a line of its edits is refused
 abbrev pub HasStoppedSafely : {K : Type 0} → SinkCall K → (contents : ℕ → List ℕ) → Type 0

@@ -18,7 +18,7 @@ use cl_picture::MOST_WINDOW;
 pub const TRACE_LIMIT: u64 = 268_435_456;
 
 /// A command of the program, with the numbers and names that its words spell.
-#[derive(Debug, PartialEq, Eq, Drop)]
+#[derive(PartialEq, Eq, Drop)]
 pub enum Command {
     /// `analyse MODEL`: writes the report of a model: responses, bounds, exact lengths and
     /// verdicts.

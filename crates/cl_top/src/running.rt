@@ -1,6 +1,6 @@
 ghost use Rattle.std.specs.Prelude.{◌≡◌, ℕ, List, Some};
 ghost use Rattle.cl_io.specs.Shelf.{Content};
-ghost use Rattle.cl_engine.specs.{Calls.{shelf_call, sink_call}, Fetched.TellsFiles, Files.word, SoundCall.IsSoundCall, Language.files_of, Run.{ComesTo, Ends}, declared.status.TheConstants.{DONE, EDITS_REFUSED, NOT_VERIFIED}};
+ghost use Rattle.cl_engine.specs.{Calls.{shelf_call, sink_call}, Fetched.TellsFiles, Files.word, SoundCall.IsSoundCall, Language.files_of, Run.{ComesTo, CallEnds}, declared.status.TheConstants.{DONE, EDITS_REFUSED, NOT_VERIFIED}};
 ghost use Rattle.cl_top.specs.{declared.command.Command.Command as AnyCommand, Command.command_of, Commands.commands, Headline.{HasReported, HasReportedSome}, Printed.{HasPrintedSafe, HasStoppedSafely, HasDecided, ProvesInTime}};
 
 use crate::Command;
@@ -33,7 +33,7 @@ pub fn run<S: Shelf, K: Sink, L: Ledger>(
 
     // Of that, how it ends: out of memory, or with the outcome to which the words come, written
     // whole or cut short.
-    ensures ends { Ends (ComesTo commands words.now (shelf_call S.held S.faults S.longest shelf.old shelf.new))
+    ensures ends { CallEnds (ComesTo commands words.now (shelf_call S.held S.faults S.longest shelf.old shelf.new))
         (sink_call K.written K.faults K.last_failed sink.old sink.new) result }
 
     // It follows, the headline: what `analyse` has written at status 0 is the report of the model

@@ -6,7 +6,7 @@ ghost use Rattle.cl_top.specs.Subject.{what_of, names_asked};
 use cl_model::{LengthKind, Name, RequirementKind, ValidModel};
 
 /// What is asked of. A name says of which.
-#[derive(Clone, Copy, Debug, PartialEq, Eq)]
+#[derive(Clone, Copy, PartialEq, Eq)]
 pub enum What {
     /// `response`: a task.
     Response,

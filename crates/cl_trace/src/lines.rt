@@ -14,7 +14,7 @@ use cl_time::NoMemory;
 use std::alloc::Global;
 
 /// What a run line says: a task runs in each tick from `from` on and before `to`.
-#[derive(Clone, Copy, Debug, PartialEq, Eq)]
+#[derive(Clone, Copy, PartialEq, Eq)]
 pub(crate) struct RunLine {
     pub task: u32,
     pub from: u64,

@@ -7,7 +7,7 @@ use Rattle.std.proofs.lemmas.List.FromFn.{get_or-map-range_with_len, length-map-
 use Rattle.cl_model.specs.{declared.{model.SystemModel.SystemModel, task.TaskDef.TaskDef}, ByNumber.no_task}
 use Rattle.cl_runs.specs.{SystemOf.{timing_of, system_of}, TaskTiming.{Timing, System, timing_at, no_timing}}
 use Rattle.cl_runs.proofs.ModelSystem.{timing_is, count_is}
-use Rattle.cl_tune.specs.{Orders.{priority_in, priority_under}, Priorities.{task_with, with_priorities, HasPriorities}}
+use Rattle.cl_tune.specs.{Orders.{priority_in, priority_under}, Priorities.{task_with, with_all_priorities, HasPriorities}}
 
 -- ---- a system with other priorities
 
@@ -36,26 +36,26 @@ priority_within system core order task =
 
 module _ (model : SystemModel) (priority : ℕ → ℕ) where
   abbrev made : SystemModel
-  made = with_priorities model priority
+  made = with_all_priorities model priority
 
   pub count_made : length made.tasks ≡ length model.tasks
-  unfolding with_priorities
+  unfolding with_all_priorities
   count_made = length-map-range_with_len (task_with model priority) 0 (length model.tasks)
 
   pub task_made : (i : ℕ) (d : TaskDef) → i < length model.tasks → get_or made.tasks i d ≡ task_with model priority i
-  unfolding with_priorities
+  unfolding with_all_priorities
   task_made i d h = get_or-map-range_with_len (task_with model priority) 0 (length model.tasks) i i d h (omega arith)
 
   -- its timing has the priority that is given, and all else of the model's
   own_timing : (i : ℕ) → i < length model.tasks → timing_of made (task_with model priority i) ≡ timing_with (system_of model) priority i
-  unfolding with_priorities
+  unfolding with_all_priorities
   own_timing i h = ap (λ (t : Timing). record t { priority = priority i }) (sym (timing_is model i h))
 
   timing_made : (i : ℕ) → i < length model.tasks → timing_at (system_of made) i ≡ timing_with (system_of model) priority i
   timing_made i h = timing_is made i (omega (arith, h, count_made)) ∙ ap (timing_of made) (task_made i no_task h) ∙ own_timing i h
 
   cores_made : (system_of made).cores ≡ (system_of model).cores
-  unfolding system_of with_priorities
+  unfolding system_of with_all_priorities
   cores_made = refl
 
   pub has_priorities : HasPriorities (system_of model) (system_of made) priority
@@ -79,16 +79,16 @@ module _ (model : SystemModel) (priority : ℕ → ℕ) where
         ∙ sym (get_or_default (system_with (system_of model) own).tasks k d no_timing (omega (arith, g, count_with (system_of model) own))))
 
     pub system_is : system_of made ≡ system_with (system_of model) own
-    unfolding system_of with_priorities system_with
+    unfolding system_of with_all_priorities system_with
     system_is = ap (λ (tasks : List Timing). record { cores = length model.cores; tasks = tasks }) tasks_are
 
 -- the system of a model with given priorities
-pub given_system : (model : SystemModel) (priority : ℕ → ℕ) → system_of (with_priorities model priority) ≡ system_with (system_of model) priority
+pub given_system : (model : SystemModel) (priority : ℕ → ℕ) → system_of (with_all_priorities model priority) ≡ system_with (system_of model) priority
 given_system model priority = system_is model priority priority (λ i h. refl)
 
 -- and where the tasks of a core have those that an order gives them
 pub ordered_system : (model : SystemModel) (core : ℕ) (order : List ℕ)
-    → system_of (with_priorities model (priority_under model core order)) ≡ system_with (system_of model) (priority_within (system_of model) core order)
+    → system_of (with_all_priorities model (priority_under model core order)) ≡ system_with (system_of model) (priority_within (system_of model) core order)
 ordered_system model core order =
     system_is model (priority_under model core order) (priority_within (system_of model) core order)
     (λ i h. sym (ap (λ (t : Timing). if t.core == core then priority_in order i else t.priority) (timing_is model i h)))

@@ -11,7 +11,7 @@ use Rattle.cl_runs.specs.{SystemOf.system_of, TaskTiming.{Timing, System, timing
 use Rattle.cl_runs.proofs.ModelSystem.{count_is}
 use Rattle.cl_resp.specs.{declared.question.Question.Question, Question.{longest_hold, block_of, taken_by, question_of}, Response.response_to}
 use Rattle.cl_bound.specs.Answers.{answer_with, answer_to, is_late}
-use Rattle.cl_tune.specs.{BestOrders.{AreBestPriorities, HasBestPriorities}, Orders.{priority_in, IsPassing}, Priorities.with_priorities}
+use Rattle.cl_tune.specs.{BestOrders.{AreBestPriorities, HasBestPriorities}, Orders.{priority_in, IsPassing}, Priorities.with_all_priorities}
 use Rattle.cl_tune.proofs.{Members.{has, has_place, all_at, permuted_same}, CoreOrders.task_there, NewPriorities.{timing_with, system_with, count_with, timing_with_is, priority_within, given_system, ordered_system}, Timings.core_is, UnderOrders.range_below}
 
 -- ---- lists that differ only where a test fails
@@ -134,7 +134,7 @@ module _ (model : SystemModel) (valid : IsValid model) (priorities : List ℕ) (
       sym (permuted_same (tasks_of_core model (core_of model task)) (order_at task h).order (order_at task h).best.passing.tasks other)
       ∙ task_there model valid (core_of model task) other (omega (arith, g, count_is model)) (core_is model other g ∙ on)
 
-  pub pass_together : (task : ℕ) → task < length model.tasks → IsPassing (system_of (with_priorities model (slice_index priorities))) task
+  pub pass_together : (task : ℕ) → task < length model.tasks → IsPassing (system_of (with_all_priorities model (slice_index priorities))) task
   pass_together task h =
       let core = core_of model task in
       let is = order_at task h in

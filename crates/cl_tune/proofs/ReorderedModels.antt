@@ -6,12 +6,12 @@ use Rattle.cl_model.specs.{declared.model.SystemModel.SystemModel, Validity.IsVa
 use Rattle.cl_runs.specs.{SystemOf.system_of, TaskTiming.{Timing, no_timing}}
 use Rattle.cl_runs.proofs.ModelSystem.{count_is}
 use Rattle.cl_bound.specs.{declared.answer.TaskAnswer.TaskAnswer, Answers.{answer_to, answers_of, is_late}}
-use Rattle.cl_tune.specs.{BestOrders.AreBestPriorities, Priorities.with_priorities}
+use Rattle.cl_tune.specs.{BestOrders.AreBestPriorities, Priorities.with_all_priorities}
 use Rattle.cl_tune.proofs.{NewPriorities.count_made, OrdersTogether.pass_together}
 
 module _ (model : SystemModel) (valid : IsValid model) (priorities : List ℕ) (best : AreBestPriorities model priorities) where
   abbrev made : SystemModel
-  made = with_priorities model (slice_index priorities)
+  made = with_all_priorities model (slice_index priorities)
 
   pub all_in_time : All (λ (answer : TaskAnswer). is_late answer ≡ false) (answers_of (system_of made))
   unfolding answers_of

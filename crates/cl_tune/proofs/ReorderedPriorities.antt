@@ -8,7 +8,7 @@ use Rattle.cl_model.specs.{declared.{limits.TheConstants.MOST_PRIORITY, model.Sy
 use Rattle.cl_model.proofs.CoreTasks.{few_tasks}
 use Rattle.cl_runs.specs.{SystemOf.system_of, TaskTiming.{Timing, timing_at}, Priorities.is_above}
 use Rattle.cl_runs.proofs.ModelSystem.{count_is}
-use Rattle.cl_tune.specs.{BestOrders.AreBestPriorities, Priorities.with_priorities}
+use Rattle.cl_tune.specs.{BestOrders.AreBestPriorities, Priorities.with_all_priorities}
 use Rattle.cl_tune.proofs.{NewPriorities.{timing_with, has_priorities}, OrdersTogether.{order_at, in_order_at, pass_together}, Priorities.{priority_few, priorities_apart}, Timings.{core_is, pattern_is, deadline_is}}
 
 module _ (model : SystemModel) (valid : IsValid model) (priorities : List ℕ) (best : AreBestPriorities model priorities) where
@@ -41,7 +41,7 @@ module _ (model : SystemModel) (valid : IsValid model) (priorities : List ℕ) (
       → spans_too_many (deadline_of model i) (stimulus_of model j) ≡ false
   spans_few i j hi hj cores higher =
       let system = system_of model in
-      let with = system_of (with_priorities model given) in
+      let with = system_of (with_all_priorities model given) in
       let has = has_priorities model given in
       let one = has.each i (omega (arith, hi, count_is model)) in
       let other = has.each j (omega (arith, hj, count_is model)) in

@@ -14,7 +14,7 @@ use Rattle.cl_model.specs.{ValidTasks.{late_check, release_check, room_check, sp
 use Rattle.cl_model.specs.declared.place.Key.TheVariants as key
 use Rattle.cl_model.proofs.{ChecksLeft.{times_checks, rest_check, refusals_left, task_passes}, EachFacts.each_nothing, NamedAlike.{take_same, maps_through}, NoRefusals.none_in_order, PassedChecks.stimuli_pass}
 use Rattle.cl_resp.proofs.Filters.{filter-map, by_number}
-use Rattle.cl_tune.specs.{BestOrders.AreBestPriorities, Priorities.{task_with, with_priorities}}
+use Rattle.cl_tune.specs.{BestOrders.AreBestPriorities, Priorities.{task_with, with_all_priorities}}
 use Rattle.cl_tune.proofs.{Members.has_place, NewPriorities.{count_made, task_made}, ReorderedPriorities.{distinct, in_range, spans_few}, UnderOrders.range_below}
 
 -- ---- tests of tasks
@@ -49,17 +49,17 @@ module _ (model : SystemModel) (priorities : List ℕ) where
   given = slice_index priorities
 
   abbrev made : SystemModel
-  made = with_priorities model given
+  made = with_all_priorities model given
 
   all_alike : map bare made.tasks ≡ map bare model.tasks
-  unfolding with_priorities
+  unfolding with_all_priorities
   all_alike =
       map-map bare (task_with model given) (range_with_len 0 (length model.tasks))
       ∙ sym (map-map bare (task_at model) (range_with_len 0 (length model.tasks)))
       ∙ ap (map bare) (by_number model.tasks no_task)
 
   named_alike : AreNamedAlike model made
-  unfolding with_priorities
+  unfolding with_all_priorities
   named_alike = record {
     cores = refl;
     stimuli = refl;
@@ -70,7 +70,7 @@ module _ (model : SystemModel) (priorities : List ℕ) where
   }
 
   stimuli_same : stimulus_checks made ≡ stimulus_checks model
-  unfolding stimulus_checks with_priorities
+  unfolding stimulus_checks with_all_priorities
   stimuli_same = refl
 
   module _ (valid : IsValid model) (best : AreBestPriorities model priorities) where
@@ -101,7 +101,7 @@ module _ (model : SystemModel) (priorities : List ℕ) where
       same_room = as_many task.core (take i made.tasks) (take i model.tasks) (take_same bare i made.tasks model.tasks all_alike)
 
       rest_passes : rest_check made i changed ≡ []
-      unfolding with_priorities
+      unfolding with_all_priorities
       rest_passes =
           let passes = task_passes model valid i h in
           let kind = kind_named model task.stimulus in
@@ -123,7 +123,7 @@ module _ (model : SystemModel) (priorities : List ℕ) where
       -- ---- its deadline
 
       not_outpaced : (j : ℕ) → j < length model.tasks → core_of model j ≡ core_of model i → is_outpaced_by made changed (task_with model given j) ≡ false
-      unfolding with_priorities
+      unfolding with_all_priorities
       not_outpaced j g cores =
           let other = task_at model j in
           let spans : StimulusKind → Bool = λ kind. is_some_and (kind_named model other.stimulus) (spans_too_many (deadline_under kind task)) in
@@ -179,7 +179,7 @@ module _ (model : SystemModel) (priorities : List ℕ) where
         }
 
     stays : IsInRange made
-    unfolding with_priorities
+    unfolding with_all_priorities
     stays =
         let counts = valid.in_range.counts in
         record {
@@ -199,5 +199,5 @@ module _ (model : SystemModel) (priorities : List ℕ) where
           requirements = valid.in_range.requirements;
         }
 
-pub reordered_valid : (model : SystemModel) → IsValid model → (priorities : List ℕ) → AreBestPriorities model priorities → IsValid (with_priorities model (slice_index priorities))
+pub reordered_valid : (model : SystemModel) → IsValid model → (priorities : List ℕ) → AreBestPriorities model priorities → IsValid (with_all_priorities model (slice_index priorities))
 reordered_valid model valid priorities best = record { in_range = stays model priorities valid best; accepted = all_pass model priorities valid best }

@@ -3,7 +3,7 @@ use Rattle.std.specs.Prelude.{◌≡◌, ℕ, ◌+◌, ◌<◌, true, false, ◌
 use Rattle.cl_model.specs.{declared.model.SystemModel.SystemModel, ByNumber.{task_at, core_of, tasks_of_core}, ValidTasks.spans_too_many}
 use Rattle.cl_runs.specs.{SystemOf.system_of, TaskTiming.{System, timing_at}, Priorities.is_above}
 use Rattle.cl_bound.specs.Answers.{answer_to, is_late}
-use Rattle.cl_tune.specs.Priorities.{with_priorities}
+use Rattle.cl_tune.specs.Priorities.{with_all_priorities}
 
 -- the priority that an order gives a task: an order lists tasks by their numbers, from priority 1 upward
 abbrev pub priority_in : (order : List ℕ) → (task : ℕ) → ℕ
@@ -23,4 +23,4 @@ pub record IsPassing (system : System) (task : ℕ) : Type 0 where
 -- an order of a core passes: it has the tasks of the core, each once, and under it they pass
 pub record IsPassingOrder (model : SystemModel) (core : ℕ) (order : List ℕ) : Type 0 where
   pub tasks : IsPermutation (tasks_of_core model core) order
-  pub pass : All (IsPassing (system_of (with_priorities model (priority_under model core order)))) order
+  pub pass : All (IsPassing (system_of (with_all_priorities model (priority_under model core order)))) order

@@ -9,8 +9,8 @@ abbrev pub task_with : SystemModel → (priority : ℕ → ℕ) → (task : ℕ)
 task_with model priority task = record (task_at model task) { priority = priority task }
 
 -- a model with other priorities, given by the numbers of the tasks
-unfoldable pub with_priorities : SystemModel → (priority : ℕ → ℕ) → SystemModel
-with_priorities model priority = record model { tasks = map (task_with model priority) (range_with_len 0 (length model.tasks)) }
+unfoldable pub with_all_priorities : SystemModel → (priority : ℕ → ℕ) → SystemModel
+with_all_priorities model priority = record model { tasks = map (task_with model priority) (range_with_len 0 (length model.tasks)) }
 
 -- a system is another with these priorities
 pub record HasPriorities (system other : System) (priority : ℕ → ℕ) : Type 0 where

@@ -2,7 +2,7 @@
 use cl_model::List;
 
 /// The best priorities of a model, or the first core that has none.
-#[derive(Debug, PartialEq, Eq, Drop)]
+#[derive(PartialEq, Eq, Drop)]
 pub enum OrderAnswer {
     /// The priority of each task, in file order. On each core the priorities count from 1 upward,
     /// and a greater number is a higher priority.

@@ -4,7 +4,7 @@ ghost use Rattle.cl_model.specs.{declared.model.SystemModel.SystemModel, Ranges.
 ghost use Rattle.cl_runs.specs.{SystemOf.system_of, Requirements.{MeetsDeadlines, IsInTime}};
 ghost use Rattle.cl_bound.specs.{declared.answer.TaskAnswer.TaskAnswer, Answers.{answers_of, is_late}};
 ghost use Rattle.cl_scale.specs.Scaled.{scaled};
-ghost use Rattle.cl_tune.specs.{declared.answer.OrderAnswer.OrderAnswer, BestOrders.{IsBestOrder, AreBestPriorities, IsOrderAnswer}, Headroom.{Keeps, IsHeadroom}, Orders.IsPassing, Priorities.{with_priorities, HasPriorities}};
+ghost use Rattle.cl_tune.specs.{declared.answer.OrderAnswer.OrderAnswer, BestOrders.{IsBestOrder, AreBestPriorities, IsOrderAnswer}, Headroom.{Keeps, IsHeadroom}, Orders.IsPassing, Priorities.{with_all_priorities, HasPriorities}};
 
 /// A core has at most one best order.
 pub fn best_orders_are_unique()
@@ -29,7 +29,7 @@ pub fn best_orders_pass_together()
     ensures { (model : SystemModel) → IsValid model → (priorities : List ℕ)
         → AreBestPriorities model priorities
         → (task : ℕ) → task < length model.tasks
-        → IsPassing (system_of (with_priorities model (slice_index priorities))) task }
+        → IsPassing (system_of (with_all_priorities model (slice_index priorities))) task }
 {}
 
 /// A valid model with its best priorities is valid. The system of a model whose tasks get other
@@ -37,9 +37,9 @@ pub fn best_orders_pass_together()
 pub fn reordered_models_are_valid()
     ensures valid { (model : SystemModel) → IsValid model → (priorities : List ℕ)
         → AreBestPriorities model priorities
-        → IsValid (with_priorities model (slice_index priorities)) }
+        → IsValid (with_all_priorities model (slice_index priorities)) }
     ensures system { (model : SystemModel) (priority : ℕ → ℕ)
-        → HasPriorities (system_of model) (system_of (with_priorities model priority)) priority }
+        → HasPriorities (system_of model) (system_of (with_all_priorities model priority)) priority }
 {}
 
 /// No task of a valid model with its best priorities is late, and its deadlines are met in every
@@ -48,10 +48,10 @@ pub fn reordered_models_are_in_time()
     ensures timely { (model : SystemModel) → IsValid model → (priorities : List ℕ)
         → AreBestPriorities model priorities
         → All (λ (answer : TaskAnswer). is_late answer ≡ false)
-        (answers_of (system_of (with_priorities model (slice_index priorities)))) }
+        (answers_of (system_of (with_all_priorities model (slice_index priorities)))) }
     ensures deadlines { (model : SystemModel) → IsValid model → (priorities : List ℕ)
         → AreBestPriorities model priorities
-        → MeetsDeadlines (with_priorities model (slice_index priorities)) }
+        → MeetsDeadlines (with_all_priorities model (slice_index priorities)) }
 {}
 
 /// A valid model that is scaled by a percentage that keeps is in time: in every legal run its

@@ -10,7 +10,7 @@ use cl_time::NoMemory;
 use std::alloc::Global;
 
 /// How long a task may execute, and hold its core, with scaled times.
-#[derive(Clone, Copy, Debug, PartialEq, Eq)]
+#[derive(Clone, Copy, PartialEq, Eq)]
 pub(crate) struct TaskTimes {
     /// The greatest execution time of a job: the sum of those of its runnables.
     pub(crate) time: u64,

@@ -3,8 +3,8 @@ use Rattle.std.proofs.Common.{◌≡◌, ℕ, ◌<◌, Bool, true, false, Option
 use Rattle.std.specs.Prelude.{Result, IfOk, if◌then◌else◌}
 use Rattle.std.specs.Option.{option_map}
 use Rattle.std.proofs.lemmas.List.{get_or-map}
-use Rattle.cl_model.specs.declared.{model.SystemModel.SystemModel, chain.RequirementDef.RequirementDef}
-use Rattle.cl_runs.specs.{Requirements.{no_requirement, requirement_at, required_chain, IsBrokenBy}, SystemOf.system_of}
+use Rattle.cl_model.specs.{declared.{model.SystemModel.SystemModel, chain.RequirementDef.RequirementDef}, ByNumber.{no_requirement, requirement_at}}
+use Rattle.cl_runs.specs.{Requirements.{required_chain, IsBrokenBy}, SystemOf.system_of}
 use Rattle.cl_runs.proofs.ModelSystem.{count_is}
 use Rattle.cl_hop.specs.Bounds.{Lengths}
 use Rattle.cl_resp.specs.{ByPhase.response_by_phase, Response.Response}

@@ -2,8 +2,8 @@
 use Rattle.std.proofs.Common.{◌≡◌, ℕ, ◌+◌, ◌<◌, Some, None, List, [], ◌∷◌, ◌++◌, length, get_or, refl, sym, ap, ◌∙◌, subst, codes, append_assoc, arith}
 use Rattle.std.specs.Prelude.{decimal}
 use Rattle.std.proofs.lemmas.List.{get_or_default}
-use Rattle.cl_model.specs.{declared.{model.SystemModel.SystemModel, chain.RequirementDef.RequirementDef}, Kinds.requirement_word, ByNumber.task_at, Validity.IsValid}
-use Rattle.cl_runs.specs.Requirements.{no_requirement, requirement_at, required_chain}
+use Rattle.cl_model.specs.{declared.{model.SystemModel.SystemModel, chain.RequirementDef.RequirementDef}, Kinds.requirement_word, ByNumber.{task_at, no_requirement, requirement_at}, Validity.IsValid}
+use Rattle.cl_runs.specs.Requirements.{required_chain}
 use Rattle.cl_analyse.specs.declared.findings.ChainAnswer.TheVariants as chain
 use Rattle.cl_analyse.specs.{declared.findings.Verdict.Verdict, ChainAnswers.chain_answer_at, Verdicts.verdict_at}
 use Rattle.cl_analyse.specs.declared.findings.Verdict.TheVariants as verdict

@@ -4,8 +4,8 @@ use Rattle.std.specs.List.{list_all, count_by, AllPass}
 use Rattle.std.proofs.lemmas.Bool.{and_parts}
 use Rattle.std.proofs.lemmas.List.{get_or_default}
 use Rattle.std.proofs.lemmas.List.Sums.{AllPass-from_list_all, list_all-from_AllPass}
-use Rattle.cl_model.specs.{declared.model.SystemModel.SystemModel, Validity.IsValid}
-use Rattle.cl_runs.specs.{SystemOf.system_of, Requirements.{requirement_at, IsKept, IsBroken}, Responses.AlwaysFinishesWithin}
+use Rattle.cl_model.specs.{declared.model.SystemModel.SystemModel, Validity.IsValid, ByNumber.requirement_at}
+use Rattle.cl_runs.specs.{SystemOf.system_of, Requirements.{IsKept, IsBroken}, Responses.AlwaysFinishesWithin}
 use Rattle.cl_bound.specs.{declared.answer.TaskAnswer.TaskAnswer, Answers.{answer_at, is_late}}
 use Rattle.cl_bound.specs.declared.answer.TaskAnswer.TheVariants as answer
 use Rattle.cl_analyse.specs.{declared.findings.Verdict.Verdict, Verdicts.{verdict_at, is_met}}

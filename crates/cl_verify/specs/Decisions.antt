@@ -1,8 +1,8 @@
 -- What is decided of tasks and requirements: what is met holds in every legal run, and what is broken is so in some legal
 -- run. Times are in ticks.
 use Rattle.std.specs.Prelude.{◌≡◌, ℕ, ◌<◌, ◌≤◌, List, length, Option, Some, None, IfSome, slice_index_or}
-use Rattle.cl_model.specs.declared.{model.SystemModel.SystemModel, chain.RequirementDef.RequirementDef}
-use Rattle.cl_runs.specs.Requirements.{requirement_at, required_chain, HasLength, IsBrokenBy}
+use Rattle.cl_model.specs.{declared.{model.SystemModel.SystemModel, chain.RequirementDef.RequirementDef}, ByNumber.requirement_at}
+use Rattle.cl_runs.specs.Requirements.{required_chain, HasLength, IsBrokenBy}
 use Rattle.cl_bound.specs.{declared.answer.TaskAnswer.TaskAnswer, Answers.answer_at}
 use Rattle.cl_bound.specs.declared.answer.TaskAnswer.TheVariants as answer
 use Rattle.cl_analyse.specs.declared.findings.ChainAnswer.TheVariants as chain

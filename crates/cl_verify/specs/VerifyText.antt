@@ -2,8 +2,7 @@
 use Rattle.std.specs.Prelude.{◌≡◌, ℕ, ◌+◌, Bool, true, false, List, [], ◌++◌, length, count_by, codes, decimal, Option, Some, None}
 use Rattle.std.specs.List.{flat_map, range_with_len}
 use Rattle.cl_text.specs.Line.{line}
-use Rattle.cl_model.specs.{declared.{model.SystemModel.SystemModel, chain.RequirementDef.RequirementDef}, Kinds.requirement_word, ByNumber.{task_at, deadline_of}}
-use Rattle.cl_runs.specs.Requirements.{requirement_at}
+use Rattle.cl_model.specs.{declared.{model.SystemModel.SystemModel, chain.RequirementDef.RequirementDef}, Kinds.requirement_word, ByNumber.{task_at, deadline_of, requirement_at}}
 use Rattle.cl_verify.specs.{declared.decision.{TaskDecision.TaskDecision, Decision.Decision, Decisions.Decisions}, Decisions.{task_decision_at, decision_at, AreDecisionsOf}}
 use Rattle.cl_verify.specs.declared.decision.TaskDecision.TheVariants as task
 use Rattle.cl_verify.specs.declared.decision.Decision.TheVariants as requirement

@@ -1,7 +1,7 @@
 //! Deciding a model, task by task and requirement by requirement. Times are in ticks.
 ghost use Rattle.std.specs.Prelude.{◌≡◌, ℕ, ◌<◌, length, IfOk, IfSome};
-ghost use Rattle.cl_model.specs.{declared.model.SystemModel.SystemModel, Validity.IsValid};
-ghost use Rattle.cl_runs.specs.Requirements.{requirement_at, required_chain, HasLength};
+ghost use Rattle.cl_model.specs.{declared.model.SystemModel.SystemModel, Validity.IsValid, ByNumber.requirement_at};
+ghost use Rattle.cl_runs.specs.Requirements.{required_chain, HasLength};
 ghost use Rattle.cl_bound.specs.Answers.{answer_at};
 ghost use Rattle.cl_analyse.specs.{declared.findings.Verdict.TheVariants.Unshown, Verdicts.{limited_bound, verdict_at}};
 ghost use Rattle.cl_tight.specs.{Promises.AreSafeTightFindings, TightFindings.tight_findings_of};

@@ -2,7 +2,7 @@
 use cl_model::List;
 
 /// What is decided of a task.
-#[derive(Clone, Copy, Debug, PartialEq, Eq)]
+#[derive(Clone, Copy, PartialEq, Eq)]
 pub enum TaskDecision {
     /// Its response is at most its deadline, in every legal run.
     Met { response: u64 },
@@ -14,7 +14,7 @@ pub enum TaskDecision {
 }
 
 /// What is decided of a requirement.
-#[derive(Clone, Copy, Debug, PartialEq, Eq)]
+#[derive(Clone, Copy, PartialEq, Eq)]
 pub enum Decision {
     /// The bound of its chain and kind is at most what is required, and so is each length in every
     /// legal run.
@@ -29,7 +29,7 @@ pub enum Decision {
 }
 
 /// What is decided of a model.
-#[derive(Debug, PartialEq, Eq, Drop)]
+#[derive(PartialEq, Eq, Drop)]
 pub struct Decisions {
     /// Of each task, in file order.
     pub tasks: List<TaskDecision>,

@@ -10,7 +10,7 @@ use std::alloc::Global;
 
 /// What runs have shown of a chain, kind by kind: `None` where no run was asked for, and else the
 /// length, if there is one.
-#[derive(Clone, Copy, Debug, PartialEq, Eq)]
+#[derive(Clone, Copy, PartialEq, Eq)]
 pub(crate) struct LengthsOfChain {
     reaction: Option<Option<u64>>,
     age: Option<Option<u64>>,

@@ -1,7 +1,7 @@
 //! What decisions say of every legal run.
 ghost use Rattle.std.specs.Prelude.{◌≡◌, ◌↔◌, ℕ, ◌<◌, true, length};
-ghost use Rattle.cl_model.specs.{declared.model.SystemModel.SystemModel, Validity.IsValid};
-ghost use Rattle.cl_runs.specs.{Requirements.{requirement_at, IsKept, IsBroken}, Responses.AlwaysFinishesWithin, SystemOf.system_of};
+ghost use Rattle.cl_model.specs.{declared.model.SystemModel.SystemModel, Validity.IsValid, ByNumber.requirement_at};
+ghost use Rattle.cl_runs.specs.{Requirements.{IsKept, IsBroken}, Responses.AlwaysFinishesWithin, SystemOf.system_of};
 ghost use Rattle.cl_tight.specs.TightFindings.{tight_findings_of, is_verified};
 ghost use Rattle.cl_near.specs.Seen.{MissesDeadline};
 ghost use Rattle.cl_verify.specs.{declared.decision.Decisions.Decisions, Decisions.{AreDecisionsOf, task_decision_at, decision_at}, VerifyText.{broken_count, unshown_count}};

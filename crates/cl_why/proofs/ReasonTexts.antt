@@ -2,8 +2,8 @@
 use Rattle.std.proofs.Common.{◌≡◌, ℕ, ◌<◌, Option, List, ◌++◌, length, get_or, map, refl, sym, ap, ◌∙◌, subst}
 use Rattle.std.specs.Prelude.{IfSome}
 use Rattle.std.proofs.lemmas.List.{get_or-map}
-use Rattle.cl_model.specs.{declared.{model.SystemModel.SystemModel, chain.{RequirementKind.RequirementKind, RequirementDef.RequirementDef}, group.Group.Group}, ByNumber.{no_chain, chain_at}, Groups.groups_at, Validity.IsValid}
-use Rattle.cl_runs.specs.{Requirements.{no_requirement, requirement_at, required_chain, HasLength}, SystemOf.system_of}
+use Rattle.cl_model.specs.{declared.{model.SystemModel.SystemModel, chain.{RequirementKind.RequirementKind, RequirementDef.RequirementDef}, group.Group.Group}, ByNumber.{no_chain, chain_at, no_requirement, requirement_at}, Groups.groups_at, Validity.IsValid}
+use Rattle.cl_runs.specs.{Requirements.{required_chain, HasLength}, SystemOf.system_of}
 use Rattle.cl_hop.specs.{Bounds.Lengths, declared.group_timing.GroupTiming.GroupTiming}
 use Rattle.cl_bound.specs.{Answers.{answer_at, NoneIsLate}, declared.answer.TaskAnswer.TaskAnswer}
 use Rattle.cl_phase.specs.{TightBounds.tight_bounds, declared.whole.WholeWalk.WholeWalk, Whole.IsWholeWalkOf}
@@ -14,7 +14,7 @@ use Rattle.cl_report.specs.Report.{chain_line}
 use Rattle.cl_verify.specs.{declared.decision.{TaskDecision.TaskDecision, Decision.Decision}, Decisions.{IsDecisionOnTask, IsDecisionOn}, VerifyText.{task_decision_line, decision_line}}
 use Rattle.cl_verify.specs.declared.decision.Decision.TheVariants as requirement
 use Rattle.cl_verify.proofs.{ByFindings.{tasks_of_findings, chain_found}, DecisionLines.late_answered}
-use Rattle.cl_why.specs.{declared.window.Window.Window, Shares.window_lines, Hops.group_lines, Walks.walk_lines, Inner.{IsWindowOf, HasJobsOf}, Reasons.{title, bound_line, IsReasonOfTask, IsReasonOfBound, IsReasonBy, IsReasonOfChain, IsWhyOfRequirement, Appends}}
+use Rattle.cl_why.specs.{declared.window.Window.Window, Shares.window_lines, Hops.why_group_lines, Walks.why_walk_lines, Inner.{IsWindowOf, HasJobsOf}, Reasons.{title, bound_line, IsReasonOfTask, IsReasonOfBound, IsReasonBy, IsReasonOfChain, IsWhyOfRequirement, Appends}}
 use Rattle.cl_why.proofs.TimedGroups.{two_pieces, three_pieces}
 
 -- ---- of a task
@@ -90,10 +90,10 @@ pub reason_of_bound : (model : SystemModel) (chain : ℕ) (kind : RequirementKin
     (groups : List Group) (timings : List GroupTiming) (t0 t1 t2 t3 : List ℕ) → IfSome seen (HasLength model chain kind)
     → groups ≡ groups_at model chain → timings ≡ map (tight_timing (system_of model)) (groups_at model chain)
     → ((timing : Group → GroupTiming) → timings ≡ map timing groups → IsWholeWalkOf (system_of model) timing groups kind bound walk)
-    → t1 ≡ t0 ++ bound_line model chain kind bound seen → t2 ≡ t1 ++ group_lines model chain walk → t3 ≡ t2 ++ walk_lines model chain walk kind
+    → t1 ≡ t0 ++ bound_line model chain kind bound seen → t2 ≡ t1 ++ why_group_lines model chain walk → t3 ≡ t2 ++ why_walk_lines model chain walk kind
     → Appends (IsReasonOfBound model chain kind bound) t0 t3
 reason_of_bound model chain kind bound seen walk groups timings t0 t1 t2 t3 occurs same are each h1 h2 h3 = record {
-  lines = bound_line model chain kind bound seen ++ group_lines model chain walk ++ walk_lines model chain walk kind;
+  lines = bound_line model chain kind bound seen ++ why_group_lines model chain walk ++ why_walk_lines model chain walk kind;
   holds = record {
     seen = seen;
     occurs = occurs;
@@ -102,7 +102,7 @@ reason_of_bound model chain kind bound seen walk groups timings t0 t1 t2 t3 occu
         (each (tight_timing (system_of model)) (are ∙ ap (λ (list : List Group). map (tight_timing (system_of model)) list) (sym same)));
     printed = refl;
   };
-  joined = three_pieces (bound_line model chain kind bound seen) (group_lines model chain walk) (walk_lines model chain walk kind) t0 t1 t2 t3 h1 h2 h3;
+  joined = three_pieces (bound_line model chain kind bound seen) (why_group_lines model chain walk) (why_walk_lines model chain walk kind) t0 t1 t2 t3 h1 h2 h3;
 }
 
 -- ---- of a requirement

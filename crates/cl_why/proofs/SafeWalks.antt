@@ -16,7 +16,7 @@ use Rattle.cl_phase.proofs.{LongestStarts.{LastsFromStart, longest_from_start}, 
 use Rattle.cl_analyse.specs.{declared.findings.ChainAnswer.TheVariants.Bounds, Verdicts.limited_bound}
 use Rattle.cl_tight.specs.{TightTimings.tight_timing, TightFindings.tight_chain_answer_of}
 use Rattle.cl_tight.proofs.TightChains.{tight_answer, tight_given, tight_bounds_some}
-use Rattle.cl_why.specs.{Hops.{timing_at_place, missed_at as listed_missed, taken_at as listed_taken}, Walks.{walk_from, walk_to, read_of_first, write_of_last}, Promises.{handed_over, IsMissedBy, IsWalkOfBound, LastAsBounds}}
+use Rattle.cl_why.specs.{Hops.{timing_at_place, missed_arrival as listed_missed, taken_arrival as listed_taken}, Walks.{walk_from, walk_to, read_of_first, write_of_last}, Promises.{handed_over, IsMissedBy, IsWalkOfBound, LastAsBounds}}
 use Rattle.cl_why.proofs.{JustMissed.just_misses, WalksLast.{ticks, misses_at, takes_at, lasts, last_write_is, span_is}}
 
 -- ---- of groups

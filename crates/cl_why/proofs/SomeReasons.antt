@@ -2,8 +2,8 @@
 use Rattle.std.proofs.Common.{◌≡◌, ℕ, ◌*◌, ◌<◌, ℤ, pos, ◌+ℤ◌, List, ◌++◌, None, length, map, refl, ◌∙◌, arith}
 use Rattle.std.specs.List.{range_with_len}
 use Rattle.std.proofs.lemmas.Int.{ints}
-use Rattle.cl_model.specs.{declared.{chain.RequirementKind.RequirementKind, group.Group.Group, model.SystemModel.SystemModel}, ByNumber.chain_at, Groups.groups_at, Validity.IsValid}
-use Rattle.cl_runs.specs.{TaskTiming.System, SystemOf.system_of, Requirements.{no_requirement, requirement_at, required_chain}}
+use Rattle.cl_model.specs.{declared.{chain.RequirementKind.RequirementKind, group.Group.Group, model.SystemModel.SystemModel}, ByNumber.{chain_at, no_requirement, requirement_at}, Groups.groups_at, Validity.IsValid}
+use Rattle.cl_runs.specs.{TaskTiming.System, SystemOf.system_of, Requirements.required_chain}
 use Rattle.cl_hop.specs.declared.group_timing.GroupTiming.{GroupTiming}
 use Rattle.cl_phase.specs.{declared.{stop.Stop.Stop, whole.WholeWalk.WholeWalk}, Walks.pace_at, TightBounds.{stops_of, span_of, last_write, slowest, hyperperiod_in}, Walked.walk_start, Whole.{is_kept, missed_at, counted_at, IsMovedWalk, IsWholeWalkOf}}
 use Rattle.cl_analyse.specs.{declared.findings.ChainAnswer.{ChainAnswer, TheVariants.{Bounds, Late}}, Verdicts.limited_bound}
@@ -12,7 +12,7 @@ use Rattle.cl_tight.proofs.{TightChains.tight_answer, TightLists.required_known,
 use Rattle.cl_report.specs.Report.{chain_line}
 use Rattle.cl_verify.specs.{Decisions.{task_decision_at, decision_at}, VerifyText.{task_decision_line, decision_line}}
 use Rattle.cl_verify.proofs.SomeDecisions.{some_decisions}
-use Rattle.cl_why.specs.{Shares.window_lines, Hops.group_lines, Walks.walk_lines, Reasons.{title, bound_line, IsReasonOfTask, IsReasonOfBound, IsReasonBy, IsReasonOfChain, IsWhyOfTask, IsWhyOfChain, IsWhyOfRequirement}}
+use Rattle.cl_why.specs.{Shares.window_lines, Hops.why_group_lines, Walks.why_walk_lines, Reasons.{title, bound_line, IsReasonOfTask, IsReasonOfBound, IsReasonBy, IsReasonOfChain, IsWhyOfTask, IsWhyOfChain, IsWhyOfRequirement}}
 use Rattle.cl_why.proofs.SomeWorst.{some_worst}
 
 unmoved : (moment : ℤ) (turn : ℕ) → moment ≡ (moment +ℤ pos (0 * turn))
@@ -60,7 +60,7 @@ module _ (model : SystemModel) (valid : IsValid model) where
   reason_of_bound : (chain : ℕ) (kind : RequirementKind) (bound : ℕ) → (text : List ℕ) × IsReasonOfBound model chain kind bound text
   reason_of_bound chain kind bound =
       let (walk, is_walk) = some_walk (system_of model) (tight_timing (system_of model)) (groups_at model chain) kind bound in (
-        bound_line model chain kind bound None ++ group_lines model chain walk ++ walk_lines model chain walk kind,
+        bound_line model chain kind bound None ++ why_group_lines model chain walk ++ why_walk_lines model chain walk kind,
         record { seen = None; occurs = tt; walk = walk; is_walk = is_walk; printed = refl },
       )
 

@@ -10,7 +10,7 @@ use Rattle.cl_runs.proofs.ModelSystem.{count_is, system_sound}
 use Rattle.cl_stim.specs.{declared.phase.Phase.Phase, Phase.{last_arrival, arrives_at, phase_of}}
 use Rattle.cl_stim.proofs.{ArrivalTests.{arrives_from_test, test_from_arrival}, PhaseSteps.last_before}
 use Rattle.cl_cycle.specs.Cycles.{in_phase_above}
-use Rattle.cl_resp.specs.{declared.{worst.WorstWindow.WorstWindow, question.Block.TheVariants.OfLower}, Asked.{Asked, holds_within, beginnings_of, is_answered, suffices, MayBegin, EndsBy, ComesRound}, Question.{tight_question_of, IsQuestionInRange}, Worst.{within_of, NoneEndsBy}}
+use Rattle.cl_resp.specs.{declared.{worst.WorstWindow.WorstWindow, question.Block.TheVariants.OfLower}, Asked.{Asked, holds_within, beginnings_of, is_answered, suffices, MayBegin, EndsBy, AskedComesRound}, Question.{tight_question_of, IsQuestionInRange}, Worst.{within_of, NoneEndsBy}}
 use Rattle.cl_resp.specs.{Worst.{IsFirstUnanswered, PassesOrZero, IsWorstWindowOf}, Inner.Worst.{IsLatestUnanswered, AreAnsweredBefore}}
 use Rattle.cl_resp.proofs.{LeastRound.asked_comes_round, Questions.questions_in_range, PhasedQuestions.{is_question, question_in_range}, SearchedStarts.{IsBack, back_to, ends_by, answered_at, answered_from, suffices_from}, WorstBeginnings.{never_both, none_ends, latest_is, first_is}}
 use Rattle.cl_resp.proofs.{WorstCandidates.{in_bounds_of, follows_0}, WorstTasks.{same_asked, worst_fixed, worst_other}, WorstWithin.{arrivals_lack, candidates_lack}}
@@ -67,7 +67,7 @@ second_fails false b is passes = absurd (true≢false (sym passes))
 
 -- ---- fixed arrivals
 
-module _ (asked : Asked) (comes : ComesRound asked) (within : ℕ) where
+module _ (asked : Asked) (comes : AskedComesRound asked) (within : ℕ) where
   -- an arrival that isn't answered has a latest beginning from which no window ends in time
   module _ (arrival : ℤ) where
     abbrev latest : ℤ
@@ -257,7 +257,7 @@ module _ (model : SystemModel) (valid : IsValid model) (task : ℕ) (known : tas
   by_arrivals : (fixed : Option Phase) → phase_of (timing_at system task).pattern ≡ fixed → (window : WorstWindow) × IsWorstWindowOf system task window
   by_arrivals (Some phase) fixed =
       let asks = is_question model valid task known members (λ other. refl) time in
-      let round = subst ComesRound (sym (same_asked system task time _ asks))
+      let round = subst AskedComesRound (sym (same_asked system task time _ asks))
       (asked_comes_round system (system_sound model valid) task time (subst (λ n. task < n) (sym (count_is model)) known)) in
       let (window, first) = some_unanswered _ round (within_of system task) (arrivals_lack model valid task known _ asks) in
       (window, worst_fixed system task _ asks phase fixed window first)

@@ -12,7 +12,7 @@ use Rattle.cl_hop.specs.{declared.group_timing.GroupTiming.GroupTiming, Hops.lag
 use Rattle.cl_phase.specs.declared.whole.WholeWalk.{WholeWalk}
 use Rattle.cl_tight.specs.TightTimings.{tight_timing}
 use Rattle.cl_explain.specs.Explanation.{hop_head}
-use Rattle.cl_why.specs.{Hops.{timing_at_place, kept_at, missed_by, missed_by_words, lag_words, hop_line}, Walks.{first_missed, missed_lines, taken_lines, walk_from, walk_to, length_line, read_of_first, write_of_last, walk_lines}}
+use Rattle.cl_why.specs.{Hops.{timing_at_place, kept_at, missed_by, missed_by_words, lag_words, why_hop_line}, Walks.{first_missed, missed_lines, taken_lines, walk_from, walk_to, why_length_line, read_of_first, write_of_last, why_walk_lines}}
 
 -- ---- timings
 
@@ -62,8 +62,8 @@ lag_shown walk place writer reader t0 t1 t2 t3 apart h1 h2 h3 =
 pub hop_shown : (model : SystemModel) (chain place : ℕ) (walk : WholeWalk) (writer reader : GroupTiming) (t0 t1 t2 t3 : List ℕ)
     → t1 ≡ t0 ++ hop_head model chain place writer reader → t2 ≡ t1 ++ lag_words walk place writer reader → t3 ≡ t2 ++ 0x0A ∷ []
     → writer ≡ timing_at_place model chain place → reader ≡ timing_at_place model chain (place + 1)
-    → t3 ≡ t0 ++ hop_line model chain walk place
-unfolding hop_line
+    → t3 ≡ t0 ++ why_hop_line model chain walk place
+unfolding why_hop_line
 hop_shown model chain place walk writer reader t0 t1 t2 t3 h1 h2 h3 own next =
     let words : GroupTiming → GroupTiming → List ℕ = λ w r. (hop_head model chain place w r ++ lag_words walk place w r) ++ 0x0A ∷ [] in
     line_of_two (hop_head model chain place writer reader) (lag_words walk place writer reader) (0x0A ∷ []) t0 t1 t2 t3 h1 h2 h3
@@ -71,18 +71,18 @@ hop_shown model chain place walk writer reader t0 t1 t2 t3 h1 h2 h3 own next =
 
 -- the lines of a walk
 pub walk_shown : (model : SystemModel) (chain : ℕ) (walk : WholeWalk) (kind : RequirementKind) (first read write : ℕ) (from to : ℤ) (t0 t1 t2 t3 : List ℕ)
-    → t1 ≡ t0 ++ missed_lines model chain walk first → t2 ≡ t1 ++ taken_lines model chain walk → t3 ≡ t2 ++ length_line model chain from to
+    → t1 ≡ t0 ++ missed_lines model chain walk first → t2 ≡ t1 ++ taken_lines model chain walk → t3 ≡ t2 ++ why_length_line model chain from to
     → first ≡ first_missed kind → read ≡ read_of_first model chain → write ≡ write_of_last model chain
-    → from ≡ walk_from walk kind read → to ≡ walk_to walk write → t3 ≡ t0 ++ walk_lines model chain walk kind
-unfolding walk_lines
+    → from ≡ walk_from walk kind read → to ≡ walk_to walk write → t3 ≡ t0 ++ why_walk_lines model chain walk kind
+unfolding why_walk_lines
 walk_shown model chain walk kind first read write from to t0 t1 t2 t3 h1 h2 h3 is_first is_read is_write is_from is_to =
     let start = is_from ∙ ap (walk_from walk kind) is_read in
     let end = is_to ∙ ap (walk_to walk) is_write in
     three_pieces (missed_lines model chain walk (first_missed kind)) (taken_lines model chain walk)
-    (length_line model chain (walk_from walk kind (read_of_first model chain)) (walk_to walk (write_of_last model chain))) t0 t1 t2 t3
+    (why_length_line model chain (walk_from walk kind (read_of_first model chain)) (walk_to walk (write_of_last model chain))) t0 t1 t2 t3
     (h1 ∙ ap (λ (n : ℕ). t0 ++ missed_lines model chain walk n) is_first) h2
-    (h3 ∙ ap (λ (z : ℤ). t2 ++ length_line model chain z to) start
-    ∙ ap (λ (z : ℤ). t2 ++ length_line model chain (walk_from walk kind (read_of_first model chain)) z) end)
+    (h3 ∙ ap (λ (z : ℤ). t2 ++ why_length_line model chain z to) start
+    ∙ ap (λ (z : ℤ). t2 ++ why_length_line model chain (walk_from walk kind (read_of_first model chain)) z) end)
 
 -- the line of one more number stands behind those before it, which begin at a number
 pub line_more_from : (line : ℕ → List ℕ) (text before after : List ℕ) (from n m : ℕ) → from + n ≡ m

@@ -9,7 +9,7 @@ use Rattle.cl_hop.proofs.AlongChains.{last_timing}
 use Rattle.cl_phase.specs.{declared.{pace.Pace.Pace, stop.Stop.Stop, whole.WholeWalk.WholeWalk}, Pace.{IsPace, previous, next}, Walks.{pace_at, last_place, onward, back, arrival_at_first, arrival_at_last}, TightBounds.{span_of, last_write, slowest, hyperperiod_in}, Walked.walk_start}
 use Rattle.cl_phase.specs.Whole.{missed_at, taken_at, counted_at, IsMovedWalk}
 use Rattle.cl_phase.proofs.{DelaySteps.{next_past, next_of_previous}, LongestStarts.LastsFromStart, PaceSteps.paces_step, WalkStarts.IsArrivalAt, WholeWalks.{missed_back, taken_onward, taken_before}}
-use Rattle.cl_why.specs.{Hops.{missed_at as listed_missed, taken_at as listed_taken}, Walks.{walk_from, walk_to}}
+use Rattle.cl_why.specs.{Hops.{missed_arrival as listed_missed, taken_arrival as listed_taken}, Walks.{walk_from, walk_to}}
 
 -- the arrival after the one before an arrival is that arrival
 next_is : (pace : Pace) → IsPace pace → (arrival : ℤ) → IsArrivalAt pace arrival → next pace (previous pace arrival) ≡ arrival

@@ -12,7 +12,7 @@ use Rattle.cl_stim.specs.{declared.phase.Phase.Phase, Phase.{IsArrivalOf, last_a
 use Rattle.cl_stim.proofs.{PhaseSteps.{last_before, last_within}, Releases.most_rises}
 use Rattle.cl_cycle.specs.{Counts.each_moment, Cycles.{is_one_of, in_phase_above, cycle_of}}
 use Rattle.cl_cycle.proofs.CountedTicks.{wider_has}
-use Rattle.cl_resp.specs.{declared.worst.WorstWindow.WorstWindow, Asked.{Asked, MayBegin, EndsBy, AnswersWithin, ComesRound}, ByPhase.{phase_if, released_by, time_by, demand_by, asked_by_phase}, Worst.{within_of, NoneEndsBy, IsCandidate, IsWorstBy}}
+use Rattle.cl_resp.specs.{declared.worst.WorstWindow.WorstWindow, Asked.{Asked, MayBegin, EndsBy, AnswersWithin, AskedComesRound}, ByPhase.{phase_if, released_by, time_by, demand_by, asked_by_phase}, Worst.{within_of, NoneEndsBy, IsCandidate, IsWorstBy}}
 use Rattle.cl_resp.proofs.{LeastMoved.{ComesIn, whole_cycles, ends_later}, LeastRound.asked_comes_round, PhasedAnswers.through_between}
 use Rattle.cl_phase.specs.TightBounds.{ticks_or_none}
 use Rattle.cl_near.specs.Plans.{IsWindowOfRun}
@@ -91,7 +91,7 @@ module _ (system : System) (sound : IsSound system) (task : ℕ) (known : task <
   abbrev asked : Asked
   asked = asked_by_phase system task (greatest_execution (timing_at system task))
 
-  comes : ComesRound (asked_by_phase system task (greatest_execution (timing_at system task)))
+  comes : AskedComesRound (asked_by_phase system task (greatest_execution (timing_at system task)))
   comes = asked_comes_round system sound task (greatest_execution (timing_at system task)) known
 
   -- what is asked never falls, and is a tick or more

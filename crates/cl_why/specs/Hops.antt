@@ -19,21 +19,21 @@ timing_at_place model chain place = tight_timing (system_of model) (group_at (gr
 abbrev pub kept_at : WholeWalk → (place : ℕ) → Bool
 kept_at walk place = slice_index_or walk.kept place false
 
-abbrev pub missed_at : WholeWalk → (place : ℕ) → ℤ
-missed_at walk place = slice_index_or walk.missed place (pos 0)
+abbrev pub missed_arrival : WholeWalk → (place : ℕ) → ℤ
+missed_arrival walk place = slice_index_or walk.missed place (pos 0)
 
-abbrev pub taken_at : WholeWalk → (place : ℕ) → ℤ
-taken_at walk place = slice_index_or walk.taken place (pos 0)
+abbrev pub taken_arrival : WholeWalk → (place : ℕ) → ℤ
+taken_arrival walk place = slice_index_or walk.taken place (pos 0)
 
 -- the line of a group
-unfoldable pub group_line : SystemModel → (chain : ℕ) → WholeWalk → (place : ℕ) → List ℕ
-group_line model chain walk place =
+unfoldable pub why_group_line : SystemModel → (chain : ℕ) → WholeWalk → (place : ℕ) → List ℕ
+why_group_line model chain walk place =
     line (group_words model chain place (timing_at_place model chain place) ++ free_words (kept_at walk place))
 
 -- by how much what the job of the group of a place hands over comes too late for the job of the next group that just
 -- misses it
 abbrev pub missed_by : WholeWalk → (place : ℕ) → (lag : ℤ) → ℤ
-missed_by walk place lag = (taken_at walk place +ℤ lag) -ℤ missed_at walk (place + 1)
+missed_by walk place lag = (taken_arrival walk place +ℤ lag) -ℤ missed_arrival walk (place + 1)
 
 -- which is said where both keep their phases
 abbrev pub missed_by_words : WholeWalk → (place : ℕ) → (lag : ℤ) → List ℕ
@@ -47,15 +47,15 @@ lag_words walk place writer reader =
     else codes " lag " ++ signed_decimal (lag writer reader) ++ missed_by_words walk place (lag writer reader)
 
 -- the line of the hop from the group of a place to the next
-unfoldable pub hop_line : SystemModel → (chain : ℕ) → WholeWalk → (place : ℕ) → List ℕ
-hop_line model chain walk place =
+unfoldable pub why_hop_line : SystemModel → (chain : ℕ) → WholeWalk → (place : ℕ) → List ℕ
+why_hop_line model chain walk place =
     let writer = timing_at_place model chain place in
     let reader = timing_at_place model chain (place + 1) in
     line (hop_head model chain place writer reader ++ lag_words walk place writer reader)
 
 -- the lines of the groups of a chain, with those of the hops between them
-unfoldable pub group_lines : SystemModel → (chain : ℕ) → WholeWalk → List ℕ
-group_lines model chain walk =
-    group_line model chain walk 0
-    ++ flat_map (λ place. hop_line model chain walk place ++ group_line model chain walk (place + 1))
+unfoldable pub why_group_lines : SystemModel → (chain : ℕ) → WholeWalk → List ℕ
+why_group_lines model chain walk =
+    why_group_line model chain walk 0
+    ++ flat_map (λ place. why_hop_line model chain walk place ++ why_group_line model chain walk (place + 1))
     (range_with_len 0 (length (groups_at model chain) - 1))

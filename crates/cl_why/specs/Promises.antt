@@ -11,7 +11,7 @@ use Rattle.cl_phase.specs.{declared.whole.WholeWalk.WholeWalk, Whole.IsWholeWalk
 use Rattle.cl_analyse.specs.{declared.findings.ChainAnswer.TheVariants.Bounds, Verdicts.limited_bound}
 use Rattle.cl_tight.specs.{TightAnswers.tight_answers_of, TightTimings.tight_timing, TightFindings.tight_chain_answer_of}
 use Rattle.cl_near.specs.Plans.{IsWindowOfRun}
-use Rattle.cl_why.specs.{Windows.{end_of, sum_of_shares, time_past_window}, Hops.{timing_at_place, kept_at, missed_at, taken_at, missed_by}, Walks.{walk_from, walk_to, read_of_first, write_of_last}}
+use Rattle.cl_why.specs.{Windows.{end_of, sum_of_shares, time_past_window}, Hops.{timing_at_place, kept_at, missed_arrival, taken_arrival, missed_by}, Walks.{walk_from, walk_to, read_of_first, write_of_last}}
 
 -- the shares of a task that isn't late add up to its window, which ends a response after the arrival
 pub record AddUpToWindow (model : SystemModel) (task : ℕ) (window : WorstWindow) (response : ℕ) : Type 0 where
@@ -46,8 +46,8 @@ handed_over writer reader = if saves writer reader then writer.jitter else write
 -- so much later reads, at the earliest, where the writer has handed over at the latest
 pub record IsMissedBy (walk : WholeWalk) (place : ℕ) (writer reader : GroupTiming) : Type 0 where
   pub some : pos 1 ≤ℤ missed_by walk place (lag writer reader)
-  pub takes : (missed_at walk (place + 1) +ℤ missed_by walk place (lag writer reader)) +ℤ pos reader.read
-      ≡ taken_at walk place +ℤ pos (handed_over writer reader)
+  pub takes : (missed_arrival walk (place + 1) +ℤ missed_by walk place (lag writer reader)) +ℤ pos reader.read
+      ≡ taken_arrival walk place +ℤ pos (handed_over writer reader)
 
 -- what each bound of a model promises
 pub record LastAsBounds (model : SystemModel) : Type 0 where

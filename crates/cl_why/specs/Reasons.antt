@@ -1,8 +1,8 @@
 -- The text of why a task is answered, or a chain or a requirement bounded, as the decisions on a model say.
 use Rattle.std.specs.Prelude.{◌≡◌, ℕ, List, ◌++◌, Option, IfSome, codes, decimal}
 use Rattle.cl_text.specs.Line.{line}
-use Rattle.cl_model.specs.{declared.{chain.RequirementKind.RequirementKind, model.SystemModel.SystemModel}, Kinds.requirement_word, ByNumber.chain_at, Groups.groups_at}
-use Rattle.cl_runs.specs.{SystemOf.system_of, Requirements.{requirement_at, required_chain, HasLength}}
+use Rattle.cl_model.specs.{declared.{chain.RequirementKind.RequirementKind, model.SystemModel.SystemModel}, Kinds.requirement_word, ByNumber.{chain_at, requirement_at}, Groups.groups_at}
+use Rattle.cl_runs.specs.{SystemOf.system_of, Requirements.{required_chain, HasLength}}
 use Rattle.cl_resp.specs.declared.worst.WorstWindow.{WorstWindow}
 use Rattle.cl_bound.specs.Answers.{answer_at}
 use Rattle.cl_phase.specs.{declared.whole.WholeWalk.WholeWalk, Whole.IsWholeWalkOf}
@@ -11,7 +11,7 @@ use Rattle.cl_tight.specs.{TightTimings.tight_timing, TightFindings.{tight_chain
 use Rattle.cl_near.specs.Plans.{IsWindowOfRun}
 use Rattle.cl_report.specs.Report.{chain_line}
 use Rattle.cl_verify.specs.{declared.decision.{TaskDecision.TaskDecision, Decision.Decision}, Decisions.{IsDecisionOnTask, IsDecisionOn}, VerifyText.{seen_words, task_decision_line, decision_line}}
-use Rattle.cl_why.specs.{Shares.window_lines, Hops.group_lines, Walks.walk_lines}
+use Rattle.cl_why.specs.{Shares.window_lines, Hops.why_group_lines, Walks.why_walk_lines}
 
 -- a text goes on with lines of which this holds
 pub record Appends (each : List ℕ → Type 0) (old new : List ℕ) : Type 0 where
@@ -45,7 +45,7 @@ pub record IsReasonOfBound (model : SystemModel) (chain : ℕ) (kind : Requireme
   pub occurs : IfSome seen (HasLength model chain kind)
   pub walk : WholeWalk
   pub is_walk : IsWholeWalkOf (system_of model) (tight_timing (system_of model)) (groups_at model chain) kind bound walk
-  pub printed : text ≡ bound_line model chain kind bound seen ++ group_lines model chain walk ++ walk_lines model chain walk kind
+  pub printed : text ≡ bound_line model chain kind bound seen ++ why_group_lines model chain walk ++ why_walk_lines model chain walk kind
 
 -- by the answer for a chain: its bound of a kind or, where a task of it is late, the first such
 abbrev pub IsReasonBy : SystemModel → (chain : ℕ) → RequirementKind → ChainAnswer → (text : List ℕ) → Type 0

@@ -5,7 +5,7 @@ ghost use Rattle.cl_model.specs.Groups.{groups_at};
 ghost use Rattle.cl_runs.specs.SystemOf.{system_of};
 ghost use Rattle.cl_tight.specs.TightTimings.{tight_timing};
 ghost use Rattle.cl_stim.specs.Integers.{IsIntegerWithin};
-ghost use Rattle.cl_why.specs.{Hops.{missed_at, taken_at, group_line, missed_by_words, lag_words, hop_line, group_lines}, Shares.free_words, Inner.HasJobsOf};
+ghost use Rattle.cl_why.specs.{Hops.{missed_arrival, taken_arrival, why_group_line, missed_by_words, lag_words, why_hop_line, why_group_lines}, Shares.free_words, Inner.HasJobsOf};
 
 use cl_explain::{put_group_words, put_hop_head, put_signed};
 use cl_hop::GroupTiming;
@@ -35,7 +35,7 @@ fn put_group(
     requires timings { timings.now ≡ map (tight_timing (system_of model.now)) (groups_at model.now chain) }
     requires walk { HasJobsOf (groups_at model.now chain) walk.now }
     requires place { place < length (groups_at model.now chain) }
-    ensures { OnOk result (text.new ≡ text.old ++ group_line model.now chain walk.now place) }
+    ensures { OnOk result (text.new ≡ text.old ++ why_group_line model.now chain walk.now place) }
 {
     put_group_words(text, model, chain, place, &timings[place as usize])?;
     text.put(free_words(walk.kept.as_slice()[place as usize]))?;
@@ -48,7 +48,7 @@ fn missed_by(walk: &WholeWalk, place: usize, next: usize, lag: i128) -> i128
     requires missed { next < length walk.now.missed }
     requires taken { place < length walk.now.taken }
     requires lag { IsIntegerWithin (2 ^ 64) lag }
-    ensures { result ≡ (taken_at walk.now place +ℤ lag) -ℤ missed_at walk.now next }
+    ensures { result ≡ (taken_arrival walk.now place +ℤ lag) -ℤ missed_arrival walk.now next }
 {
     let taken = i128::from(walk.taken.as_slice()[place]);
     let missed = i128::from(walk.missed.as_slice()[next]);
@@ -123,7 +123,7 @@ fn put_hop(
     requires walk { HasJobsOf (groups_at model.now chain) walk.now }
     requires place { next ≡ place + 1 }
     requires next { next < length (groups_at model.now chain) }
-    ensures { OnOk result (text.new ≡ text.old ++ hop_line model.now chain walk.now place) }
+    ensures { OnOk result (text.new ≡ text.old ++ why_hop_line model.now chain walk.now place) }
 {
     let writer = &timings[place as usize];
     let reader = &timings[next as usize];
@@ -143,7 +143,7 @@ pub(crate) fn put_groups(
     requires chain { chain < length model.now.chains }
     requires timings { timings.now ≡ map (tight_timing (system_of model.now)) (groups_at model.now chain) }
     requires walk { HasJobsOf (groups_at model.now chain) walk.now }
-    ensures { OnOk result (text.new ≡ text.old ++ group_lines model.now chain walk.now) }
+    ensures { OnOk result (text.new ≡ text.old ++ why_group_lines model.now chain walk.now) }
 {
     let hops = model.group_count(chain) - 1;
     put_group(text, model, chain, timings, walk, 0)?;

@@ -4,7 +4,7 @@ ghost use Rattle.std.specs.Prelude.{◌≡◌, ◌<◌, ◌++◌, length, map, O
 ghost use Rattle.cl_model.specs.Groups.{groups_at};
 ghost use Rattle.cl_runs.specs.SystemOf.{system_of};
 ghost use Rattle.cl_tight.specs.TightTimings.{tight_timing};
-ghost use Rattle.cl_why.specs.{Walks.{first_missed, walk_from, walk_to, job_line, missed_lines, taken_lines, length_line, walk_lines}, Inner.HasJobsOf};
+ghost use Rattle.cl_why.specs.{Walks.{first_missed, walk_from, walk_to, job_line, missed_lines, taken_lines, why_length_line, why_walk_lines}, Inner.HasJobsOf};
 
 use cl_explain::{put_arrival_words, put_signed};
 use cl_hop::GroupTiming;
@@ -123,7 +123,7 @@ fn put_length(
     to: i128,
 ) -> Result<(), NoMemory>
     requires { chain < length model.now.chains }
-    ensures { OnOk result (text.new ≡ text.old ++ length_line model.now chain from to) }
+    ensures { OnOk result (text.new ≡ text.old ++ why_length_line model.now chain from to) }
 {
     text.put(b"length ")?;
     put_chain_name(text, model, chain)?;
@@ -146,7 +146,7 @@ pub(crate) fn put_walk(
     requires chain { chain < length model.now.chains }
     requires timings { timings.now ≡ map (tight_timing (system_of model.now)) (groups_at model.now chain) }
     requires walk { HasJobsOf (groups_at model.now chain) walk.now }
-    ensures { OnOk result (text.new ≡ text.old ++ walk_lines model.now chain walk.now kind) }
+    ensures { OnOk result (text.new ≡ text.old ++ why_walk_lines model.now chain walk.now kind) }
 {
     let last = model.group_count(chain) - 1;
     put_missed(text, model, chain, timings, walk, first_missed(kind))?;

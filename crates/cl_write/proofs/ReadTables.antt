@@ -8,7 +8,7 @@ use Rattle.cl_model.specs.declared.{chain.{RequirementDef.RequirementDef, Requir
 use Rattle.cl_model.specs.{declared.{stimulus.StimulusKind.TheVariants.{Periodic, Sporadic, Burst}, task.{AccessKind.{AccessKind, TheVariants.{Explicit, Implicit, Timed}}, RunnableDef.RunnableDef, TaskDef.TaskDef}}, AreNamed.{IsRunnableNamed, IsTaskNamed, IsChainNamed, IsRequirementNamed}}
 use Rattle.cl_model.specs.{Name.IsName, Place.{at_key, at_sub, at_spot}, Ranges.{IsKindInRange, IsRunnableInRange, IsTaskInRange, IsChainInRange}, Reading.{Checks.{a_name, a_word, a_table_of, field_checks, fields_checks, keys_of, found_or, meaning_of, names, value_at}, Meanings.text_in}}
 use Rattle.cl_model.specs.Reading.{Meanings.{list_of, table_of, word_if}, Tables.{core_fields, core_meaning, label_fields, label_meaning, StimulusForm, periodic_form, sporadic_form, burst_form, stimulus_forms, stimulus_fields, form_checks, stimulus_entry_checks, stimulus_meaning}}
-use Rattle.cl_model.specs.{Reading.Tables.{runnable_fields, runnables, runnable_meaning, access_words, task_fields, task_meaning, chain_fields, chain_meaning, requirement_words, requirement_fields, requirement_meaning}, Kinds.{access_word, requirement_word, is_delay}}
+use Rattle.cl_model.specs.{Reading.Tables.{runnable_fields, runnables, runnable_meaning, access_words, task_fields, task_meaning, chain_fields, chain_meaning, requirement_kind_words, requirement_fields, requirement_meaning}, Kinds.{access_word, requirement_word, is_delay}}
 use Rattle.cl_model.specs.declared.place.Key.TheVariants as key
 use Rattle.cl_model.proofs.NoRefusals.{none_in_order}
 use Rattle.cl_write.specs.{Entries.{Entry, members_with}, Writing.{core_table_entries, label_entries, stimulus_entries, runnable_entries, task_entries, chain_entries, requirement_entries}}
@@ -222,13 +222,13 @@ chain_means c =
 abbrev pub Says : (version : ℕ) → RequirementKind → Type 0
 Says version kind = is_delay kind ≡ true → leb 3 version ≡ true
 
-word_passes : (version : ℕ) (place : Place) (kind : RequirementKind) → Says version kind → a_word (requirement_words version) place (string (requirement_word kind)) ≡ []
+word_passes : (version : ℕ) (place : Place) (kind : RequirementKind) → Says version kind → a_word (requirement_kind_words version) place (string (requirement_word kind)) ≡ []
 word_passes version place (Length Reaction) said = refl
 word_passes version place (Length Age) said = refl
 word_passes version place (Length Reduced) said = refl
 word_passes version place Delay said = rw (said refl) refl
 
-word_means : (version : ℕ) (kind : RequirementKind) → Says version kind → unwrap_or (meaning_of (requirement_words version) (requirement_word kind)) (Length Reaction) ≡ kind
+word_means : (version : ℕ) (kind : RequirementKind) → Says version kind → unwrap_or (meaning_of (requirement_kind_words version) (requirement_word kind)) (Length Reaction) ≡ kind
 word_means version (Length Reaction) said = refl
 word_means version (Length Age) said = refl
 word_means version (Length Reduced) said = refl

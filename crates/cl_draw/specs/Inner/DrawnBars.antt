@@ -9,8 +9,8 @@ abbrev pub IsRestOfTask : TaskDef → Rest → Type 0
 IsRestOfTask task (rest.Part place) = place < length task.runnables
 IsRestOfTask task (rest.Band arrival due finished) = Unit {0}
 
-abbrev pub IsSayable : TaskDef → Item → Type 0
-IsSayable task item = IsRestOfTask task item.rest
+abbrev pub IsItemOfTask : TaskDef → Item → Type 0
+IsItemOfTask task item = IsRestOfTask task item.rest
 
 abbrev pub IsDrawableBar : TaskDef → Bar → Type 0
-IsDrawableBar task bar = IsSayable task bar.first
+IsDrawableBar task bar = IsItemOfTask task bar.first

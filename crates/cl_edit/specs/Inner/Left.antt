@@ -48,8 +48,8 @@ pub record AreLeft (left : Cursor) : Type 0 where
 -- ---- what is read of them
 
 -- the version that a title is of, which is the last line of its text or isn't
-abbrev pub version_in : (title : List ℕ) → (is_last : Bool) → Option Version
-version_in title is_last =
+abbrev pub titled_version : (title : List ℕ) → (is_last : Bool) → Option Version
+titled_version title is_last =
     if bytes_eq title (codes "chainlat edits 1") && not is_last then Some One
     else if bytes_eq (plain (without_mark title)) (codes "chainlat edits 2") then Some Two
     else None

@@ -4,7 +4,7 @@ use Rattle.std.specs.Option.{option_map, option_and_then}
 use Rattle.std.specs.Str.{bytes_eq}
 use Rattle.cl_model.specs.{declared.{limits.TheConstants.{MOST_TICKS, MOST_PRIORITY, MOST_REQUIRED, MOST_TASKS, MOST_RUNNABLES, MOST_ACCESSES, MOST_STEPS, MOST_HOPS, LEAST_JOBS_OF_BURST, MOST_JOBS_OF_BURST}, task.{RunnableDef.RunnableDef, TaskDef.TaskDef}}, Named.has_name}
 use Rattle.cl_edit.specs.declared.edit.{NamedPriority.NamedPriority, Edit.{Edit, TheVariants.{Range, Whole, Period, Offset, Jitter, Distances, Burst, Deadline, Swap, Priorities, Move, Kind, AddTask, DropTask, AddChain, DropChain, Requirement, DropRequirement, Report, Tighten, Verify}}}
-use Rattle.cl_edit.specs.{declared.version.Version.{Version, TheVariants.{One, Two}}, Inner.{Parts.{parts, first_read, then_read, with_left, if_done}, Fields.{name_in, number_in, time_in, flag_in, access_in, deadline_in, names_in, requirement_kind_in}}}
+use Rattle.cl_edit.specs.{declared.version.Version.{Version, TheVariants.{One, Two}}, Inner.{Parts.{parts, first_read, then_read, with_left, if_done}, Fields.{name_in, decimal_from, time_in, flag_in, access_in, deadline_in, names_in, requirement_kind_in}}}
 
 -- what is read of words, and the words that are left
 abbrev pub Read : Type 0 → Type 0
@@ -17,8 +17,8 @@ abbrev pub name_line : (make : List ℕ → Edit) → List (List ℕ) → Read E
 name_line make words = then_read (first_read name_in words) (λ name words. Some (make name, words))
 
 -- a name, and a word behind it
-abbrev pub word_line : {X : Type 0} → (read : List ℕ → Option X) → (make : List ℕ → X → Edit) → List (List ℕ) → Read Edit
-word_line read make words = then_read (first_read name_in words) (λ name words. then_read (first_read read words) (λ x words.
+abbrev pub read_name_and_word : {X : Type 0} → (read : List ℕ → Option X) → (make : List ℕ → X → Edit) → List (List ℕ) → Read Edit
+read_name_and_word read make words = then_read (first_read name_in words) (λ name words. then_read (first_read read words) (λ x words.
     Some (make name x, words)))
 
 -- a name, and two words behind it
@@ -31,36 +31,36 @@ abbrev pub range_in : List (List ℕ) → Read Edit
 range_in words = two_word_line time_in time_in Range words
 
 abbrev pub whole_in : List (List ℕ) → Read Edit
-whole_in words = word_line flag_in Whole words
+whole_in words = read_name_and_word flag_in Whole words
 
 abbrev pub period_in : List (List ℕ) → Read Edit
-period_in words = word_line time_in Period words
+period_in words = read_name_and_word time_in Period words
 
 abbrev pub offset_in : List (List ℕ) → Read Edit
-offset_in words = word_line (number_in 0 MOST_TICKS) Offset words
+offset_in words = read_name_and_word (decimal_from 0 MOST_TICKS) Offset words
 
 abbrev pub jitter_in : List (List ℕ) → Read Edit
-jitter_in words = word_line (number_in 0 MOST_TICKS) Jitter words
+jitter_in words = read_name_and_word (decimal_from 0 MOST_TICKS) Jitter words
 
 abbrev pub distances_in : List (List ℕ) → Read Edit
 distances_in words = two_word_line time_in time_in Distances words
 
 abbrev pub burst_in : List (List ℕ) → Read Edit
 burst_in words = then_read (first_read name_in words) (λ stimulus words. then_read (first_read time_in words) (λ period words.
-    then_read (first_read (number_in LEAST_JOBS_OF_BURST MOST_JOBS_OF_BURST) words) (λ count words.
+    then_read (first_read (decimal_from LEAST_JOBS_OF_BURST MOST_JOBS_OF_BURST) words) (λ count words.
     then_read (first_read time_in words) (λ distance words. Some (Burst stimulus period count distance, words)))))
 
 abbrev pub deadline_line_in : List (List ℕ) → Read Edit
-deadline_line_in words = word_line deadline_in Deadline words
+deadline_line_in words = read_name_and_word deadline_in Deadline words
 
 abbrev pub swap_in : List (List ℕ) → Read Edit
-swap_in words = word_line name_in Swap words
+swap_in words = read_name_and_word name_in Swap words
 
 abbrev pub move_in : List (List ℕ) → Read Edit
-move_in words = two_word_line name_in (number_in 0 MOST_PRIORITY) Move words
+move_in words = two_word_line name_in (decimal_from 0 MOST_PRIORITY) Move words
 
 abbrev pub access_line_in : List (List ℕ) → Read Edit
-access_line_in words = word_line access_in Kind words
+access_line_in words = read_name_and_word access_in Kind words
 
 abbrev pub drop_task_in : List (List ℕ) → Read Edit
 drop_task_in words = name_line DropTask words
@@ -74,7 +74,7 @@ chain_in words = two_word_line (names_in MOST_STEPS) (names_in MOST_HOPS)
 
 abbrev pub requirement_in : List (List ℕ) → Read Edit
 requirement_in words = then_read (first_read name_in words) (λ name words. then_read (first_read name_in words) (λ chain words.
-    then_read (first_read requirement_kind_in words) (λ kind words. then_read (first_read (number_in 0 MOST_REQUIRED) words) (λ most words.
+    then_read (first_read requirement_kind_in words) (λ kind words. then_read (first_read (decimal_from 0 MOST_REQUIRED) words) (λ most words.
     Some (Requirement (record { name = name; chain = chain; kind = kind; most = most }), words)))))
 
 abbrev pub drop_requirement_in : List (List ℕ) → Read Edit
@@ -92,8 +92,8 @@ list_in read (suc most) above (word ∷ words) = then_read (read above (word ∷
 -- ---- the line of priorities
 
 -- a task and the priority that it gets
-abbrev pub priority_in : List (List ℕ) → Read NamedPriority
-priority_in words = then_read (first_read name_in words) (λ task words. then_read (first_read (number_in 0 MOST_PRIORITY) words) (λ priority words.
+abbrev pub read_priority : List (List ℕ) → Read NamedPriority
+read_priority words = then_read (first_read name_in words) (λ task words. then_read (first_read (decimal_from 0 MOST_PRIORITY) words) (λ priority words.
     Some (record { task = task; priority = priority }, words)))
 
 -- the tasks that get one
@@ -105,7 +105,7 @@ abbrev pub unless_above : (above : List NamedPriority) → NamedPriority → Lis
 unless_above above p words = if has_name p.task (tasks_of above) then None else Some (p, words)
 
 abbrev pub new_priority_in : (above : List NamedPriority) → List (List ℕ) → Read NamedPriority
-new_priority_in above words = then_read (priority_in words) (unless_above above)
+new_priority_in above words = then_read (read_priority words) (unless_above above)
 
 -- priorities, of all words
 abbrev pub priority_list_in : List (List ℕ) → Option (List NamedPriority)
@@ -140,7 +140,7 @@ with_runnables task (r ∷ rs) = Some (AddTask (record task { runnables = r ∷ 
 -- what stands in front of its runnables
 abbrev pub task_head_in : List (List ℕ) → Read TaskDef
 task_head_in words = then_read (first_read name_in words) (λ name words. then_read (first_read name_in words) (λ core words.
-    then_read (first_read name_in words) (λ stimulus words. then_read (first_read (number_in 0 MOST_PRIORITY) words) (λ priority words.
+    then_read (first_read name_in words) (λ stimulus words. then_read (first_read (decimal_from 0 MOST_PRIORITY) words) (λ priority words.
     then_read (first_read access_in words) (λ access words. then_read (first_read deadline_in words) (λ deadline words.
     Some (record { name = name; core = core; stimulus = stimulus; priority = priority; access = access; deadline = deadline; runnables = [] }, words)))))))
 

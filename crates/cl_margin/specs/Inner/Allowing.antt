@@ -1,7 +1,7 @@
 -- What the requirements that are met allow of the bounds of chains. Times are in ticks.
 use Rattle.std.specs.Prelude.{◌≡◌, ℕ, ◌<◌, ◌≤◌, ◌&&◌, Bool, true, false, nat_le, min, List, length, slice_index_or}
-use Rattle.cl_model.specs.declared.{chain.{LengthKind.TheVariants.{Reaction, Age, Reduced}, RequirementKind.{RequirementKind, TheVariants.{Length, Delay}}}, model.SystemModel.SystemModel}
-use Rattle.cl_runs.specs.Requirements.{requirement_at, required_chain}
+use Rattle.cl_model.specs.{declared.{chain.{LengthKind.TheVariants.{Reaction, Age, Reduced}, RequirementKind.{RequirementKind, TheVariants.{Length, Delay}}}, model.SystemModel.SystemModel}, ByNumber.requirement_at}
+use Rattle.cl_runs.specs.Requirements.{required_chain}
 use Rattle.cl_hop.specs.Bounds.{Lengths}
 use Rattle.cl_analyse.specs.{declared.findings.{ChainAnswer.{ChainAnswer, TheVariants.{Bounds, Late}}, Verdict.Verdict}, Verdicts.{limited_bound, verdict_at, is_met}}
 use Rattle.cl_margin.specs.declared.allowed.Allowed.{Allowed}

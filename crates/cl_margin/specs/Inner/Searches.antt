@@ -1,7 +1,7 @@
 -- How a margin is searched for.
 use Rattle.std.specs.Prelude.{◌≡◌, ℕ, ◌<◌, ◌≤◌, Bool, true, false, not, List, length, MatchBool}
-use Rattle.cl_model.specs.{declared.model.SystemModel.SystemModel, Ranges.IsInRange}
-use Rattle.cl_runs.specs.{Requirements.{requirement_at, required_chain}, SystemOf.system_of}
+use Rattle.cl_model.specs.{declared.model.SystemModel.SystemModel, Ranges.IsInRange, ByNumber.requirement_at}
+use Rattle.cl_runs.specs.{Requirements.required_chain, SystemOf.system_of}
 use Rattle.cl_bound.specs.Answers.{answer_at, is_late}
 use Rattle.cl_analyse.specs.{declared.findings.ChainAnswer.{ChainAnswer, TheVariants.{Bounds, Late}}, ChainAnswers.chain_answer_at}
 use Rattle.cl_tight.specs.{TightAnswers.tight_answers_of, TightFindings.{tight_chain_answers_of, tight_findings_of}}

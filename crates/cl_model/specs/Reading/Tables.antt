@@ -171,8 +171,8 @@ abbrev pub later_words : (version : ℕ) → List (List ℕ × RequirementKind)
 later_words version = if nat_le 3 version then (codes "delay", Delay) ∷ [] else []
 
 -- the kinds of requirement of a version, by their words
-abbrev pub requirement_words : (version : ℕ) → List (List ℕ × RequirementKind)
-requirement_words version =
+abbrev pub requirement_kind_words : (version : ℕ) → List (List ℕ × RequirementKind)
+requirement_kind_words version =
     (codes "reaction", Length Reaction) ∷ (codes "age", Length Age) ∷ (codes "reduced", Length Reduced) ∷ later_words version
 
 -- the keys of a requirement, and what they mean
@@ -180,7 +180,7 @@ abbrev pub requirement_fields : (version : ℕ) → List Field
 requirement_fields version =
     required key.Name a_name
     ∷ required key.Chain a_name
-    ∷ required key.Kind (a_word (requirement_words version))
+    ∷ required key.Kind (a_word (requirement_kind_words version))
     ∷ required key.Most (a_number 0 MOST_REQUIRED)
     ∷ []
 
@@ -188,6 +188,6 @@ unfoldable pub requirement_meaning : (version : ℕ) → Members → Requirement
 requirement_meaning version ms = record {
   name = text_at key.Name ms;
   chain = text_at key.Chain ms;
-  kind = word_at (requirement_words version) (Length Reaction) key.Kind ms;
+  kind = word_at (requirement_kind_words version) (Length Reaction) key.Kind ms;
   most = number_at key.Most ms;
 }

@@ -6,15 +6,15 @@ use Rattle.cl_cycle.specs.{Counts.arrivals_of, Cycles.is_one_of}
 use Rattle.cl_resp.specs.{declared.{question.Above.Above, phased.InPhase.InPhase}, Question.taken_by}
 
 -- whether a task is among those in phase, or whether it isn't
-abbrev pub counts : (in_phase : Bool) → (cycle : List ℕ) → (other : ℕ) → Bool
-counts true cycle other = is_one_of cycle other
-counts false cycle other = not (is_one_of cycle other)
+abbrev pub counts_in_phase : (in_phase : Bool) → (cycle : List ℕ) → (other : ℕ) → Bool
+counts_in_phase true cycle other = is_one_of cycle other
+counts_in_phase false cycle other = not (is_one_of cycle other)
 
 -- the tasks above a task that are, or aren't
 abbrev pub counted_above : System → (in_phase : Bool) → (cycle : List ℕ) → (task : ℕ) → List ℕ
-counted_above system in_phase cycle task = filter (counts in_phase cycle) (tasks_above system task)
+counted_above system in_phase cycle task = filter (counts_in_phase in_phase cycle) (tasks_above system task)
 
--- a task as it counts by its phase
+-- a task as it counts_in_phase by its phase
 abbrev pub by_phase_of : System → (other : ℕ) → InPhase
 by_phase_of system other = record {
   phase = arrivals_of (timing_at system other).pattern;

@@ -18,7 +18,7 @@ abbrev pub NoneSuffices : Asked → Type 0
 NoneSuffices asked = (response : ℕ) → response ≤ asked.deadline → suffices asked response ≡ false
 
 -- a response is within the deadline, and no lesser one suffices
-pub record IsReached (asked : Asked) (response : ℕ) : Type 0 where
+pub record IsLeastSoFar (asked : Asked) (response : ℕ) : Type 0 where
   pub by_deadline : response ≤ asked.deadline
   pub least : (lesser : ℕ) → lesser < response → suffices asked lesser ≡ false
 
@@ -34,8 +34,8 @@ AnsweredBefore asked response end =
     → is_answered asked response (pos moment) ≡ true
 
 -- the windows that begin after a moment, and before another, have at most so many ticks
-abbrev pub AreWithin : Asked → (most : ℕ) → (after before : ℤ) → Type 0
-AreWithin asked most after before =
+abbrev pub WindowsWithin : Asked → (most : ℕ) → (after before : ℤ) → Type 0
+WindowsWithin asked most after before =
     (start : ℤ) → after <ℤ start → start <ℤ before → EndsBy asked start (start +ℤ pos most)
 
 -- no job of a task in phase is released at a moment at the latest

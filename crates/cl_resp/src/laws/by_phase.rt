@@ -3,23 +3,23 @@
 ghost use Rattle.std.specs.Prelude.{◌≡◌, ℕ, ◌+◌, ◌<◌, ◌≤◌, Bool, false, Some, None, length};
 ghost use Rattle.cl_model.specs.Timing.{greatest_jitter};
 ghost use Rattle.cl_runs.specs.{TaskTiming.{System, timing_at, IsSound}, Responses.{AlwaysFinishesWithin, IsTimely}, ExecutionTimes.greatest_execution};
-ghost use Rattle.cl_resp.specs.{Asked.{Asked, least_response, AnswersWithin, IsLeastResponse, ComesRound}, ByPhase.{asked_with, asked_by_phase, response_by_phase, response_through, IsSettledByPhase}, Clear.{greatest_through, greatest_behind}, LesserTimes.TakesNoMore};
+ghost use Rattle.cl_resp.specs.{Asked.{Asked, least_response, AnswersWithin, IsLeastResponse, AskedComesRound}, ByPhase.{asked_with, asked_by_phase, response_by_phase, response_through, IsSettledByPhase}, Clear.{greatest_through, greatest_behind}, LesserTimes.TakesNoMore};
 ghost use Rattle.cl_resp.specs.{Promises.AlwaysFinishesThrough, Response.{IsSettled, IsTightlySettled}};
 
 /// Where all that is asked comes round, its response is the least, from 1 tick up to the deadline,
 /// within which every arrival is answered, in the first cycle or elsewhere. It has none exactly
 /// where no such number is one.
 pub fn least_responses_answer()
-    ensures found { (asked : Asked) → ComesRound asked → (response : ℕ)
+    ensures found { (asked : Asked) → AskedComesRound asked → (response : ℕ)
         → least_response asked ≡ Some response → IsLeastResponse asked response }
-    ensures is_found { (asked : Asked) → ComesRound asked → (response : ℕ)
+    ensures is_found { (asked : Asked) → AskedComesRound asked → (response : ℕ)
         → IsLeastResponse asked response → least_response asked ≡ Some response }
 {}
 
 /// What is asked by the tasks in phase comes round, for any amount of work.
 pub fn what_is_asked_by_phase_comes_round()
     ensures { (system : System) → IsSound system → (task own : ℕ)
-        → task < length system.tasks → ComesRound (asked_by_phase system task own) }
+        → task < length system.tasks → AskedComesRound (asked_by_phase system task own) }
 {}
 
 /// Whichever tasks are in phase: if what is asked for whole jobs of a task is answered within a

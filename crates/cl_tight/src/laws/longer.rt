@@ -1,7 +1,7 @@
 //! What is found where times are longer: nothing that isn't met becomes met.
 ghost use Rattle.std.specs.Prelude.{◌≡◌, ℕ, true, false, All};
-ghost use Rattle.cl_model.specs.{declared.model.SystemModel.SystemModel, Groups.groups_at, Validity.IsValid};
-ghost use Rattle.cl_runs.specs.{Requirements.{requirement_at, required_chain}, SystemOf.system_of};
+ghost use Rattle.cl_model.specs.{declared.model.SystemModel.SystemModel, Groups.groups_at, Validity.IsValid, ByNumber.requirement_at};
+ghost use Rattle.cl_runs.specs.{Requirements.required_chain, SystemOf.system_of};
 ghost use Rattle.cl_hop.specs.{Bounds.Lengths, NoGreater.AreNoGreater};
 ghost use Rattle.cl_resp.specs.LesserTimes.{TakesNoMore};
 ghost use Rattle.cl_bound.specs.Answers.{answer_at, is_late};

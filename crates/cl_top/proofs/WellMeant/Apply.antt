@@ -6,7 +6,7 @@ use Rattle.cl_edit.specs.{declared.{edit.Edit.Edit, edit_lines.ListedEdit.Listed
 use Rattle.cl_write.proofs.SomeTexts.{some_text}
 use Rattle.cl_engine.specs.declared.files.Files.TheVariants as files
 use Rattle.cl_engine.specs.{declared.{files.TheConstants.FILE_LIMIT, outcome.Outcome.Outcome, status.TheConstants.DONE}, Language.IsOfContent}
-use Rattle.cl_top.specs.{Commands.{Apply.{all_written, refused_alone, IsOfApply, HoldsEdited, applying}, Edit.{edits_refused, bad_line}}, OfEdits.line_at, Meaning.{no_step, promises_of_both, WritesTheSame}}
+use Rattle.cl_top.specs.{Commands.{Apply.{all_written, refused_alone, IsOfApply, HoldsEdited, applying}, Edit.{edits_refused, bad_line}}, OfEdits.line_at, Meaning.{takes_no_step, promises_of_both, WritesTheSame}}
 use Rattle.cl_top.proofs.{Applied.{some_applied, applied_alike}, WellMeant.Edit.seven_content, EditsAlike.listed_in_range, Meanings.{IsMeantWell, both_well}, EditPieces.valid_after}
 
 status_of : (found other : Outcome) → found ≡ other → found.status ≡ other.status
@@ -47,7 +47,7 @@ written_some : (made : SystemModel) → IsValid made → AreNamed made → (foun
 written_some made valid named = let text = some_text made valid.in_range named in (record { status = DONE; text = text.0 }, record { status_is = refl; text_is = text.1 })
 
 pub applying_well : IsMeantWell (files.ModelAnd FILE_LIMIT) applying (Unit {0})
-applying_well = both_well no_step (promises_of_both HoldsEdited) WritesTheSame (Unit {0}) (λ one other is. inl is) FILE_LIMIT IsOfApply
+applying_well = both_well takes_no_step (promises_of_both HoldsEdited) WritesTheSame (Unit {0}) (λ one other is. inl is) FILE_LIMIT IsOfApply
     (λ model valid named text. some_applied all_written refused_alone bad_line written_some model valid named text)
     (λ model valid named text one other first second. applied_alike all_written refused_alone bad_line WritesTheSame (λ model one other h k. inr (model, h, k)) (λ one other is. inl is)
     model valid named text one other first second) apply_content (λ model text steps. omega arith) holds_edited

@@ -8,7 +8,7 @@ use Rattle.cl_draw.proofs.{OnePicture.one_picture, SomePicture.some_picture}
 use Rattle.cl_engine.specs.declared.files.Files.TheVariants as files
 use Rattle.cl_engine.specs.{declared.{outcome.Outcome.Outcome, status.TheConstants.DONE}, Language.IsOfContent}
 use Rattle.cl_engine.proofs.Outcomes.{SomeOutcome}
-use Rattle.cl_top.specs.{declared.command.TheConstants.TRACE_LIMIT, Commands.Draw.{LiesWithin, window_refused, IsDrawn, IsOfDraw, IsSafePicture, drawing}, Meaning.{no_step, promises_of_both, equal}}
+use Rattle.cl_top.specs.{declared.command.TheConstants.TRACE_LIMIT, Commands.Draw.{LiesWithin, window_refused, IsDrawn, IsOfDraw, IsSafePicture, drawing}, Meaning.{takes_no_step, promises_of_both, equal}}
 use Rattle.cl_top.proofs.{Meanings.{IsMeantWell, done_some, done_once, both_well}, OfTrace.{traced_content, done_trace}, TracesOnce.{trace_some, one_traced}}
 
 -- a window lies within a run of so many ticks, or it doesn't
@@ -53,7 +53,7 @@ module _ (from to : ℕ) (model : SystemModel) where
         ]
 
 pub drawing_well : (from to : ℕ) (limited : Type 0) → IsMeantWell (files.ModelAnd TRACE_LIMIT) (drawing from to) limited
-drawing_well from to limited = both_well no_step (promises_of_both (IsSafePicture from to)) equal limited (λ one other is. is) TRACE_LIMIT (IsOfDraw from to)
+drawing_well from to limited = both_well takes_no_step (promises_of_both (IsSafePicture from to)) equal limited (λ one other is. is) TRACE_LIMIT (IsOfDraw from to)
     (λ model valid named text. trace_some model valid (IsDrawn from to model) (some_drawn from to model valid) named text)
     (λ model valid named text one other is also. one_traced model valid (IsDrawn from to model) (drawn_once from to model valid) named text one other is also)
     (λ model text found is. traced_content model (IsDrawn from to model) (drawn_content from to model) text found is)

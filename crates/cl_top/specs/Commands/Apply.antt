@@ -4,7 +4,7 @@ use Rattle.cl_model.specs.{declared.{model.SystemModel.SystemModel, refusal.Refu
 use Rattle.cl_edit.specs.{declared.{edit.Edit.Edit, edit_lines.ListedEdit.ListedEdit}, Edited.after, Reading.{edits_of, AreEditsOf}}
 use Rattle.cl_write.specs.Texts.{IsTextOf}
 use Rattle.cl_engine.specs.{declared.outcome.Outcome.Outcome, Done.IsDone}
-use Rattle.cl_top.specs.{Commands.Edit.{edits_refused, bad_line}, OfEdits.IsOfList, Meaning.{Meaning, on_both, no_step, promises_of_both, WritesTheSame}}
+use Rattle.cl_top.specs.{Commands.Edit.{edits_refused, bad_line}, OfEdits.IsOfList, Meaning.{Meaning, on_both, takes_no_step, promises_of_both, WritesTheSame}}
 
 -- what comes of the model after all edits: a text that is read as it
 abbrev pub all_written : SystemModel → Outcome → Type 0
@@ -31,4 +31,4 @@ pub record HoldsEdited (model : SystemModel) (text_of_edits text : List ℕ) : T
 
 -- what `apply` means
 abbrev pub applying : Meaning
-applying = record { comes_to = on_both IsOfApply; takes = no_step; safe = promises_of_both HoldsEdited; same = WritesTheSame }
+applying = record { comes_to = on_both IsOfApply; takes = takes_no_step; safe = promises_of_both HoldsEdited; same = WritesTheSame }

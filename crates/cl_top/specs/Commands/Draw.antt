@@ -6,7 +6,7 @@ use Rattle.cl_runs.specs.{Run.Run, SystemOf.system_of, Legal.IsLegal}
 use Rattle.cl_trace.specs.Rules.{IsTraceOf}
 use Rattle.cl_draw.specs.Picture.{IsPictureOf}
 use Rattle.cl_engine.specs.{declared.{outcome.Outcome.Outcome, status.TheConstants.WINDOW_REFUSED}, Done.IsDone}
-use Rattle.cl_top.specs.{OfTrace.IsOfTrace, Meaning.{Meaning, on_both, no_step, promises_of_both, equal}}
+use Rattle.cl_top.specs.{OfTrace.IsOfTrace, Meaning.{Meaning, on_both, takes_no_step, promises_of_both, equal}}
 
 -- ---- the window
 
@@ -54,4 +54,4 @@ pub record IsSafePicture (from to : ℕ) (model : SystemModel) (trace text : Lis
 
 -- what `draw` means
 abbrev pub drawing : (from to : ℕ) → Meaning
-drawing from to = record { comes_to = on_both (IsOfDraw from to); takes = no_step; safe = promises_of_both (IsSafePicture from to); same = equal }
+drawing from to = record { comes_to = on_both (IsOfDraw from to); takes = takes_no_step; safe = promises_of_both (IsSafePicture from to); same = equal }

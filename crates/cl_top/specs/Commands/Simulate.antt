@@ -6,7 +6,7 @@ use Rattle.cl_runs.specs.{Run.Run, SystemOf.system_of, Legal.IsLegal}
 use Rattle.cl_gen.specs.{declared.limits.TheConstants.MOST_EXECUTIONS, Count.execution_count, Drawn.drawn}
 use Rattle.cl_trace.specs.Trace.{spelled}
 use Rattle.cl_engine.specs.declared.{outcome.Outcome.Outcome, status.TheConstants.{DONE, SIMULATION_REFUSED}}
-use Rattle.cl_top.specs.Meaning.{Meaning, on_model, no_step, no_promise, equal}
+use Rattle.cl_top.specs.Meaning.{Meaning, on_model, takes_no_step, no_promise, equal}
 
 -- so many executions are counted, which are too many
 abbrev pub simulation_refused : (count : ℕ) → Outcome
@@ -33,4 +33,4 @@ pub record IsSimulated (ticks seed : ℕ) (model : SystemModel) (found : Outcome
 
 -- what `simulate` means
 abbrev pub simulating : (ticks seed : ℕ) → Meaning
-simulating ticks seed = record { comes_to = on_model (IsSimulated ticks seed); takes = no_step; safe = no_promise; same = equal }
+simulating ticks seed = record { comes_to = on_model (IsSimulated ticks seed); takes = takes_no_step; safe = no_promise; same = equal }

@@ -13,7 +13,7 @@ use std::sync::ledger::Ledger;
 
 /// Finds the outcome of `analyse` for a valid model: its report. Counts at most one step for each
 /// task and two for each chain.
-#[tactic(auto, unfolding(crate::specs::Commands::meaning_of))]
+#[tactic(auto, unfolding(crate::specs::Commands::command_meaning))]
 pub(super) fn analysed<L: Ledger>(
     alloc: Global,
     model: &ValidModel,

@@ -17,7 +17,7 @@ use std::alloc::Global;
 /// Finds the outcome of `apply` for a valid model and the text of a list of edits: a text of the
 /// least version from 2 on that can say the model after all edits, which is read as that model; or
 /// the first bad line of the text; or the first edit that is refused.
-#[tactic(auto, unfolding(crate::specs::Commands::meaning_of))]
+#[tactic(auto, unfolding(crate::specs::Commands::command_meaning))]
 pub(super) fn applied(alloc: Global, model: ValidModel, text: &[u8]) -> Result<Outcome, NoMemory>
     ensures { IfOk result (IsOutcomeOf Command.Apply (ModelAnd model text.now)) }
 {

@@ -19,7 +19,7 @@ use std::sync::ledger::Ledger;
 /// Finds the outcome of `check` for a model file of these bytes: what to mend where it is refused,
 /// and else what to know of its model. Counts at most one step for each task of the model that is
 /// read, and none where none is read.
-#[tactic(auto, unfolding(crate::specs::Commands::meaning_of))]
+#[tactic(auto, unfolding(crate::specs::Commands::command_meaning))]
 pub(super) fn checked<L: Ledger>(
     alloc: Global,
     bytes: &[u8],

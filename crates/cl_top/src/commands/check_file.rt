@@ -20,7 +20,7 @@ use std::sync::ledger::Ledger;
 /// Finds the outcome of `check` with a second file: as `check` finds it of a first file that holds no
 /// valid model, and else what to mend in the second, a list of edits or a trace. Counts the steps
 /// of `check`, and none where the model is accepted.
-#[tactic(auto, unfolding(crate::specs::Commands::meaning_of))]
+#[tactic(auto, unfolding(crate::specs::Commands::command_meaning))]
 pub(super) fn checked_file<L: Ledger>(
     alloc: Global,
     given: Given,

@@ -11,7 +11,7 @@ use std::alloc::Global;
 use std::sync::ledger::Ledger;
 
 /// Finds the outcome of `cut` for a valid model: the best cuts of its chains.
-#[tactic(auto, unfolding(crate::specs::Commands::meaning_of))]
+#[tactic(auto, unfolding(crate::specs::Commands::command_meaning))]
 pub(super) fn cut<L: Ledger>(
     alloc: Global,
     model: &ValidModel,

@@ -17,7 +17,7 @@ use std::alloc::Global;
 /// Finds the outcome of `draw` for a valid model and the text of a trace, from one tick to another:
 /// the picture of its run; or the first bad line of the text; or the first rule that its run
 /// breaks; or the refusal of a window that doesn't lie within the run.
-#[tactic(auto, unfolding(crate::specs::Commands::meaning_of, crate::specs::Command::AsksForFew), using(crate::proofs::OfTrace::legal_answer, crate::proofs::OfTrace::stop_follows, crate::proofs::OfTrace::is_legal))]
+#[tactic(auto, unfolding(crate::specs::Commands::command_meaning, crate::specs::Command::AsksForFew), using(crate::proofs::OfTrace::legal_answer, crate::proofs::OfTrace::stop_follows, crate::proofs::OfTrace::is_legal))]
 pub(super) fn drawn(
     alloc: Global,
     model: &ValidModel,

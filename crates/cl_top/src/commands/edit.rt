@@ -27,7 +27,7 @@ use std::sync::ledger::Ledger;
 /// each chain of the model; and, where each line is an edit, also one for each task and two for each
 /// chain whose question an edit changes, and one for each task where tight bounds are written or the
 /// model is verified.
-#[tactic(auto, unfolding(crate::specs::Commands::meaning_of))]
+#[tactic(auto, unfolding(crate::specs::Commands::command_meaning))]
 pub(super) fn edited<L: Ledger>(
     alloc: Global,
     model: ValidModel,

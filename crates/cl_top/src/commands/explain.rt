@@ -12,7 +12,7 @@ use std::sync::ledger::Ledger;
 
 /// Finds the outcome of `explain` for a valid model: what its responses and its bounds are the sums
 /// of. Counts at most one step for each task and one for each chain.
-#[tactic(auto, unfolding(crate::specs::Commands::meaning_of))]
+#[tactic(auto, unfolding(crate::specs::Commands::command_meaning))]
 pub(super) fn explained<L: Ledger>(
     alloc: Global,
     model: &ValidModel,

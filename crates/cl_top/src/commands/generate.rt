@@ -10,7 +10,7 @@ use cl_write::write_model;
 use std::alloc::Global;
 
 /// Finds the outcome of `generate`: a text that is read as the generated model.
-#[tactic(auto, unfolding(crate::specs::Commands::meaning_of, crate::specs::Command::AsksForFew))]
+#[tactic(auto, unfolding(crate::specs::Commands::command_meaning, crate::specs::Command::AsksForFew))]
 pub(super) fn generated(alloc: Global, seed: u64, tasks: u64) -> Result<Outcome, NoMemory>
     requires { AsksForFew (Command.Generate seed tasks) }
     ensures { IfOk result (IsOutcomeOf (Command.Generate seed tasks) Nothing) }

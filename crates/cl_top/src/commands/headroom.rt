@@ -12,7 +12,7 @@ use std::sync::ledger::Ledger;
 
 /// Finds the outcome of `headroom` for a valid model: how far its greatest execution times may
 /// grow.
-#[tactic(auto, unfolding(crate::specs::Commands::meaning_of))]
+#[tactic(auto, unfolding(crate::specs::Commands::command_meaning))]
 pub(super) fn headroom<L: Ledger>(
     alloc: Global,
     model: &ValidModel,

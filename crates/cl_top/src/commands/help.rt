@@ -10,7 +10,7 @@ use cl_time::NoMemory;
 use std::alloc::Global;
 
 /// The outcome of `help`: what the commands are.
-#[tactic(auto, unfolding(crate::specs::Commands::meaning_of))]
+#[tactic(auto, unfolding(crate::specs::Commands::command_meaning))]
 pub(super) fn helped(alloc: Global) -> Result<Outcome, NoMemory>
     ensures { IfOk result (IsOutcomeOf Command.Help Nothing) }
 {
@@ -20,7 +20,7 @@ pub(super) fn helped(alloc: Global) -> Result<Outcome, NoMemory>
 }
 
 /// The outcome of `help COMMAND`: what one command is.
-#[tactic(auto, unfolding(crate::specs::Commands::meaning_of))]
+#[tactic(auto, unfolding(crate::specs::Commands::command_meaning))]
 pub(super) fn helped_on(alloc: Global, topic: Topic) -> Result<Outcome, NoMemory>
     ensures { IfOk result (IsOutcomeOf (Command.HelpOn topic) Nothing) }
 {
@@ -30,7 +30,7 @@ pub(super) fn helped_on(alloc: Global, topic: Topic) -> Result<Outcome, NoMemory
 }
 
 /// The outcome of `version`.
-#[tactic(auto, unfolding(crate::specs::Commands::meaning_of))]
+#[tactic(auto, unfolding(crate::specs::Commands::command_meaning))]
 pub(super) fn named_version(alloc: Global) -> Result<Outcome, NoMemory>
     ensures { IfOk result (IsOutcomeOf Command.Version Nothing) }
 {

@@ -12,7 +12,7 @@ use std::sync::ledger::Ledger;
 
 /// Finds the outcome of `margin` for a valid model: how far its greatest execution times may grow,
 /// of all tasks and of each alone, and what breaks first.
-#[tactic(auto, unfolding(crate::specs::Commands::meaning_of))]
+#[tactic(auto, unfolding(crate::specs::Commands::command_meaning))]
 pub(super) fn margined<L: Ledger>(
     alloc: Global,
     model: &ValidModel,

@@ -11,7 +11,7 @@ use std::alloc::Global;
 
 /// Finds the outcome of `migrate` for a valid model: a text of the least version from 2 on that can
 /// say the model, which is read as the model.
-#[tactic(auto, unfolding(crate::specs::Commands::meaning_of))]
+#[tactic(auto, unfolding(crate::specs::Commands::command_meaning))]
 pub(super) fn migrated(alloc: Global, model: &ValidModel) -> Result<Outcome, NoMemory>
     ensures { IfOk result (IsOutcomeOf Command.Migrate (Model model.now)) }
 {

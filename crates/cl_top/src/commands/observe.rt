@@ -18,7 +18,7 @@ use std::sync::ledger::Ledger;
 
 /// Finds the outcome of `observe` for a valid model and the text of a trace: what its run shows; or
 /// the first bad line of the text. Counts at most one step for each task.
-#[tactic(auto, unfolding(crate::specs::Commands::meaning_of))]
+#[tactic(auto, unfolding(crate::specs::Commands::command_meaning))]
 pub(super) fn observed<L: Ledger>(
     alloc: Global,
     model: &ValidModel,

@@ -11,7 +11,7 @@ use std::alloc::Global;
 use std::sync::ledger::Ledger;
 
 /// Finds the outcome of `order` for a valid model: the best orders of its priorities.
-#[tactic(auto, unfolding(crate::specs::Commands::meaning_of))]
+#[tactic(auto, unfolding(crate::specs::Commands::command_meaning))]
 pub(super) fn ordered<L: Ledger>(
     alloc: Global,
     model: &ValidModel,

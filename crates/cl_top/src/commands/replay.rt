@@ -17,7 +17,7 @@ use std::sync::ledger::Ledger;
 /// Finds the outcome of `replay` for a valid model and the text of a trace: the replay of its run;
 /// or the first bad line of the text; or the first rule that its run breaks. Counts at most one
 /// step for each task and two for each chain.
-#[tactic(auto, unfolding(crate::specs::Commands::meaning_of), using(crate::proofs::OfTrace::legal_answer, crate::proofs::OfTrace::stop_follows, crate::proofs::OfTrace::is_legal))]
+#[tactic(auto, unfolding(crate::specs::Commands::command_meaning), using(crate::proofs::OfTrace::legal_answer, crate::proofs::OfTrace::stop_follows, crate::proofs::OfTrace::is_legal))]
 pub(super) fn replayed<L: Ledger>(
     alloc: Global,
     model: &ValidModel,

@@ -14,7 +14,7 @@ use std::alloc::Global;
 
 /// Finds the outcome of `simulate` for a valid model: the trace of the legal run of the drawn
 /// table, or the refusal of a table that is too large.
-#[tactic(auto, unfolding(crate::specs::Commands::meaning_of, crate::specs::Command::AsksForFew))]
+#[tactic(auto, unfolding(crate::specs::Commands::command_meaning, crate::specs::Command::AsksForFew))]
 pub(super) fn simulated(
     alloc: Global,
     model: &ValidModel,

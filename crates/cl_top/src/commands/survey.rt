@@ -15,7 +15,7 @@ use std::sync::ledger::Ledger;
 
 /// Finds the outcome of `survey`: the survey of the generated model. Counts at most one step for
 /// each task and two for each chain.
-#[tactic(auto, unfolding(crate::specs::Commands::meaning_of, crate::specs::Command::AsksForFew))]
+#[tactic(auto, unfolding(crate::specs::Commands::command_meaning, crate::specs::Command::AsksForFew))]
 pub(super) fn surveyed<L: Ledger>(
     alloc: Global,
     seed: u64,

@@ -13,7 +13,7 @@ use std::sync::ledger::Ledger;
 
 /// Finds the outcome of `tighten` for a valid model: its report by tight bounds. Counts at most one
 /// step for each task.
-#[tactic(auto, unfolding(crate::specs::Commands::meaning_of))]
+#[tactic(auto, unfolding(crate::specs::Commands::command_meaning))]
 pub(super) fn tightened<L: Ledger>(
     alloc: Global,
     model: &ValidModel,

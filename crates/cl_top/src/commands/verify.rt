@@ -15,7 +15,7 @@ use std::sync::ledger::Ledger;
 
 /// Finds the outcome of `verify` for a valid model: the text says what is decided of each task and
 /// each requirement, and the status whether all are met. Counts at most one step for each task.
-#[tactic(auto, unfolding(crate::specs::Commands::meaning_of))]
+#[tactic(auto, unfolding(crate::specs::Commands::command_meaning))]
 pub(super) fn verified<L: Ledger>(
     alloc: Global,
     model: &ValidModel,

@@ -17,7 +17,7 @@ use std::sync::ledger::Ledger;
 
 /// Finds the outcome of `why` for a valid model: why what is asked of is answered or bounded as it
 /// is, or that the model has nothing of that name. Counts at most one step for each task.
-#[tactic(auto, unfolding(crate::specs::Commands::meaning_of))]
+#[tactic(auto, unfolding(crate::specs::Commands::command_meaning))]
 pub(super) fn reasoned<L: Ledger>(
     alloc: Global,
     model: &ValidModel,

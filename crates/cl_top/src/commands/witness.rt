@@ -22,7 +22,7 @@ use std::sync::ledger::Ledger;
 /// Finds the outcome of `witness` for a valid model: the trace of a run that comes near to what is
 /// asked of, the refusal of one that is too large, or that the model has nothing of that name.
 /// Counts at most one step for each task.
-#[tactic(auto, unfolding(crate::specs::Commands::meaning_of))]
+#[tactic(auto, unfolding(crate::specs::Commands::command_meaning))]
 pub(super) fn witnessed<L: Ledger>(
     alloc: Global,
     model: &ValidModel,

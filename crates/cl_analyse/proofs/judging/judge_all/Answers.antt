@@ -1,7 +1,6 @@
 use Rattle.std.proofs.Common.{◌<◌, List, length, get_or, ap, ◌∙◌}
 use Rattle.std.proofs.lemmas.List.{get_or_default}
-use Rattle.cl_model.specs.declared.{model.SystemModel.SystemModel, chain.RequirementDef.RequirementDef}
-use Rattle.cl_runs.specs.Requirements.{no_requirement}
+use Rattle.cl_model.specs.{declared.{model.SystemModel.SystemModel, chain.RequirementDef.RequirementDef}, ByNumber.no_requirement}
 use Rattle.cl_analyse.specs.Verdicts.{verdict_of}
 use Rattle.cl_analyse.proofs.AnswerLists.{more_verdicts}
 use Rattle.cl_analyse.proofs.judging.judge_all.Goals as goal

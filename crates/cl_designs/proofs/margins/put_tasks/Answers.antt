@@ -1,7 +1,7 @@
 use Rattle.std.proofs.Common.{◌<◌, None, ◌++◌, length, ap, ◌∙◌, arith}
 use Rattle.cl_text.proofs.MoreLines.{line_more}
 use Rattle.cl_margin.specs.declared.{answer.Margin.Margin, whose.Whose.TheVariants.OneTask}
-use Rattle.cl_designs.specs.Margins.{line_of, task_line}
+use Rattle.cl_designs.specs.Margins.{margin_line, task_margin_line}
 use Rattle.cl_designs.proofs.MarginLines.{break_is_known, margin_read, read_is_margin}
 use Rattle.cl_designs.proofs.margins.put_tasks.Goals as goal
 
@@ -32,5 +32,5 @@ loop-task-preserved c =
     let task = c.loop-task.task in
     let within : task < length model.tasks = omega (arith, c.loop-task-test.true, c.tasks-task-end.ensures.count) in
     let found = margin_read model margins c.as_slice.result.now c.as_slice.ensures c.requires.one_a_task task within (record { percent = 0; breaks = None }) in
-    line_more (task_line model margins) c.args.text.now c.loop-task.text c.put_task.new.text task c.loop-task.invariant
-    (c.in_ok-put_task.ensures ∙ ap (λ (margin : Margin). c.loop-task.text ++ line_of model margin task) found)
+    line_more (task_margin_line model margins) c.args.text.now c.loop-task.text c.put_task.new.text task c.loop-task.invariant
+    (c.in_ok-put_task.ensures ∙ ap (λ (margin : Margin). c.loop-task.text ++ margin_line model margin task) found)

@@ -1,12 +1,12 @@
 use Rattle.std.proofs.Common.{◌^◌, ◌<◌, sym, ap, ◌∙◌, arith}
 use Rattle.std.proofs.lemmas.Fmt.{decimal_injective}
-use Rattle.cl_edit.specs.Inner.Fields.{number_in}
+use Rattle.cl_edit.specs.Inner.Fields.{decimal_from}
 use Rattle.cl_edit.proofs.FieldFacts.{number_read, no_number}
 use Rattle.cl_edit.proofs.fields.number_of.Goals as goal
 
 pub returns-then-least-number : goal.returns-then-least-number
 returns-then-least-number c =
-    ap (number_in c.args.least c.args.most) c.in-Some.ensures.some.0
+    ap (decimal_from c.args.least c.args.most) c.in-Some.ensures.some.0
     ∙ number_read c.args.least c.args.most c.in-Some.number (omega arith) (omega arith) c.in-Some.ensures.some.1
 
 pub returns-else-least-number : goal.returns-else-least-number

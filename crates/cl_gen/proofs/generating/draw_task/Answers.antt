@@ -1,10 +1,10 @@
 use Rattle.std.proofs.Common.{◌≡◌, ◌+◌, ◌-◌, ◌*◌, ◌/◌, ◌%◌, None, [], ◌∷◌, sym, ap, ◌∙◌}
 use Rattle.std.specs.Prelude.{slice_index, codes}
-use Rattle.cl_gen.specs.{Words.{Taken, word_of, draw}, Generated.{numbered, periods, access_of, stimulus_number, generated_runnable, generated_task}}
+use Rattle.cl_gen.specs.{Words.{Taken, word_of, draw}, Generated.{numbered, periods, access_of, drawn_stimulus, generated_runnable, generated_task}}
 use Rattle.cl_gen.proofs.generating.draw_task.Goals as goal
 
 pub draw_runnables-requires-clause-own : goal.draw_runnables-requires-clause-own
-unfolding stimulus_number
+unfolding drawn_stimulus
 draw_runnables-requires-clause-own c =
     let seed : c.draw.new.self.seed ≡ c.args.draws.now.seed
     = ap (λ (t : Taken). t.seed) c.draw.ensures.taken ∙ ap (λ (t : Taken). t.seed) c.draw-stimulus.ensures.taken in
@@ -14,7 +14,7 @@ draw_runnables-requires-clause-own c =
     ∙ ap (λ s. draw 0 8 (word_of s (6 * c.args.number))) (sym seed))
 
 pub returns-clause-task : goal.returns-clause-task
-unfolding generated_task stimulus_number
+unfolding generated_task drawn_stimulus
 returns-clause-task c =
     let word = word_of c.args.draws.now.seed in
     let i = c.args.number in

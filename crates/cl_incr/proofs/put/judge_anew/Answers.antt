@@ -1,7 +1,6 @@
 use Rattle.std.proofs.Common.{◌≡◌, ◌<◌, None, List, get_or, set, length, sym, ap, ◌∙◌, arith, below_more}
 use Rattle.std.proofs.lemmas.List.{get_or_default, get_or-set_same, get_or-set_other, length-map, length-set, ext_get_or}
-use Rattle.cl_model.specs.declared.{model.SystemModel.SystemModel, chain.RequirementDef.RequirementDef}
-use Rattle.cl_runs.specs.Requirements.{no_requirement, requirement_at}
+use Rattle.cl_model.specs.{declared.{model.SystemModel.SystemModel, chain.RequirementDef.RequirementDef}, ByNumber.{no_requirement, requirement_at}}
 use Rattle.cl_analyse.specs.{declared.findings.Verdict.TheVariants.Unshown, Verdicts.{verdict_at, verdict_of, verdicts_of}}
 use Rattle.cl_incr.proofs.PutExacts.{verdict_there}
 use Rattle.cl_incr.proofs.put.judge_anew.Goals as goal

@@ -5,7 +5,7 @@ use Rattle.std.proofs.lemmas.Iterator.Consumers.{count_from_yields_List, YieldsL
 use Rattle.std.proofs.lemmas.Iterator.Splits.{YieldsList-from_slice_split}
 use Rattle.std.proofs.lemmas.List.Sums.{length-filter}
 use Rattle.cl_edit.specs.Said.{lines, says}
-use Rattle.cl_lists.specs.BadLines.{first_word}
+use Rattle.cl_lists.specs.BadLines.{leading_word}
 use Rattle.cl_lists.proofs.lines.spoken_above.Goals as goal
 
 pub returns : goal.returns
@@ -13,11 +13,11 @@ returns c =
     let list = c.args.list.now in
     let n = c.saturating_sub.result in
     count_from_yields_List _ c.count.result c.count.ensures.ran
-    (YieldsList-from_filter _ (λ (found : List ℕ). says (first_word found))
+    (YieldsList-from_filter _ (λ (found : List ℕ). says (leading_word found))
     (YieldsList-at c.filter.ensures.source
     (YieldsList-from_take n
     (YieldsList-at c.take.ensures.source (YieldsList-from_slice_split _ (λ byte. byte == 0x0A) list (cc) (cc) (cc) (λ x b q k. search (rules, tests))))
     c.take.ensures.count))
     c.filter.ensures.closure (λ x b q k. search (rules, tests)))
-    ∙ length-filter (λ (found : List ℕ). says (first_word found)) (take n (lines list))
-    ∙ ap (λ (k : ℕ). count_by (λ (found : List ℕ). says (first_word found)) (take k (lines list))) c.saturating_sub.ensures
+    ∙ length-filter (λ (found : List ℕ). says (leading_word found)) (take n (lines list))
+    ∙ ap (λ (k : ℕ). count_by (λ (found : List ℕ). says (leading_word found)) (take k (lines list))) c.saturating_sub.ensures

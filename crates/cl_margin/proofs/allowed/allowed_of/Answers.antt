@@ -1,7 +1,7 @@
 use Rattle.std.proofs.Common.{◌≡◌, ℕ, ◌+◌, ◌<◌, List, None, length, get_or, set, sym, ap, ◌∙◌, subst, arith}
 use Rattle.std.proofs.lemmas.List.{get_or_default}
-use Rattle.cl_model.specs.declared.{chain.RequirementDef.RequirementDef, model.SystemModel.SystemModel}
-use Rattle.cl_runs.specs.Requirements.{no_requirement, requirement_at, required_chain}
+use Rattle.cl_model.specs.{declared.{chain.RequirementDef.RequirementDef, model.SystemModel.SystemModel}, ByNumber.{no_requirement, requirement_at}}
+use Rattle.cl_runs.specs.Requirements.{required_chain}
 use Rattle.cl_analyse.specs.{declared.findings.Verdict.TheVariants.{Met, Unshown}, Verdicts.is_met}
 use Rattle.cl_tight.proofs.TightLists.{required_known}
 use Rattle.cl_margin.specs.{declared.allowed.Allowed.Allowed, Inner.Allowing.{with_most, allowed_at}}

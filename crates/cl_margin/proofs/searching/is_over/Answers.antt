@@ -1,6 +1,6 @@
 use Rattle.std.proofs.Common.{ℕ, not, sym, ap, ◌∙◌, arith}
-use Rattle.cl_model.specs.declared.model.SystemModel.{SystemModel}
-use Rattle.cl_runs.specs.Requirements.{no_requirement, required_chain}
+use Rattle.cl_model.specs.{declared.model.SystemModel.SystemModel, ByNumber.no_requirement}
+use Rattle.cl_runs.specs.Requirements.{required_chain}
 use Rattle.cl_tight.proofs.TightLists.{required_known}
 use Rattle.cl_margin.specs.Inner.Touched.{touches_chain}
 use Rattle.cl_margin.proofs.{MetByBounds.is_within, NewlyBroken.{over_where, requirement_read, requirement_kept, chain_known, found_within}}

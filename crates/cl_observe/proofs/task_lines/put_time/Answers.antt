@@ -4,11 +4,11 @@ use Rattle.std.proofs.lemmas.List.{append_assoc, get_or_default}
 use Rattle.std.proofs.lemmas.Result.{IfOk-equal}
 use Rattle.cl_text.specs.Line.{line}
 use Rattle.cl_model.specs.{declared.task.{TaskDef.TaskDef, RunnableDef.RunnableDef}, ByNumber.{task_at, runnable_at, no_runnable}}
-use Rattle.cl_observe.specs.Observed.{range_words, runnable_line}
+use Rattle.cl_observe.specs.Observed.{range_words, observed_runnable_line}
 use Rattle.cl_observe.proofs.task_lines.put_time.Goals as goal
 
 pub returns : goal.returns
-unfolding runnable_line
+unfolding observed_runnable_line
 returns c =
     let model = c.args.model.now in
     let own = c.index-as_slice-place.result in

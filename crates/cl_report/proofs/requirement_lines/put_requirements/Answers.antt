@@ -1,9 +1,8 @@
 use Rattle.std.proofs.Common.{ℕ, ◌<◌, ◌++◌, length, get_or, ap, subst, ◌∙◌, arith}
-use Rattle.cl_model.specs.declared.chain.RequirementDef.{RequirementDef}
+use Rattle.cl_model.specs.{declared.chain.RequirementDef.RequirementDef, ByNumber.requirement_at}
 use Rattle.cl_analyse.specs.{declared.findings.Verdict.{Verdict, TheVariants.Met}, Verdicts.verdict_at}
 use Rattle.cl_text.specs.Beginnings.{PutsPart}
 use Rattle.cl_text.proofs.{Beginnings.{puts_lines, on_error}, MoreLines.line_more}
-use Rattle.cl_runs.specs.Requirements.{requirement_at}
 use Rattle.cl_report.specs.Report.{verdict_line}
 use Rattle.cl_report.proofs.ReportLines.{requirement_found, verdict_found}
 use Rattle.cl_report.proofs.requirement_lines.put_requirements.Goals as goal

@@ -1,6 +1,6 @@
 use Rattle.std.proofs.Common.{◌≡◌, ◌++◌}
 use Rattle.std.specs.List.{flat_map, range_with_len}
-use Rattle.cl_runs.specs.Requirements.{requirement_at}
+use Rattle.cl_model.specs.ByNumber.{requirement_at}
 use Rattle.cl_analyse.specs.Verdicts.{verdict_at}
 use Rattle.cl_report.specs.Report.{verdict_line}
 use Rattle.cl_report.proofs.requirement_lines.put_requirements.Given as goal

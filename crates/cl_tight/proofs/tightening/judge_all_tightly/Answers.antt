@@ -1,7 +1,7 @@
 use Rattle.std.proofs.Common.{◌<◌, List, length, get_or, sym, ap, ◌∙◌, subst}
 use Rattle.std.proofs.lemmas.List.{get_or_default}
-use Rattle.cl_model.specs.declared.{model.SystemModel.SystemModel, chain.RequirementDef.RequirementDef}
-use Rattle.cl_runs.specs.Requirements.{no_requirement, required_chain}
+use Rattle.cl_model.specs.{declared.{model.SystemModel.SystemModel, chain.RequirementDef.RequirementDef}, ByNumber.no_requirement}
+use Rattle.cl_runs.specs.Requirements.{required_chain}
 use Rattle.cl_tight.specs.TightFindings.{tight_verdict_of}
 use Rattle.cl_tight.proofs.TightLists.{more_verdicts, required_known}
 use Rattle.cl_tight.proofs.tightening.judge_all_tightly.Goals as goal

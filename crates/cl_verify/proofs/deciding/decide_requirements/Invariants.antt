@@ -1,4 +1,4 @@
-use Rattle.cl_runs.specs.Requirements.{requirement_at}
+use Rattle.cl_model.specs.ByNumber.{requirement_at}
 use Rattle.cl_analyse.specs.Verdicts.{verdict_at}
 use Rattle.cl_tight.specs.TightFindings.{tight_findings_of}
 use Rattle.cl_verify.specs.{declared.decision.Decision.TheVariants.Late, Decisions.IsDecisionOn, KnownLengths.AreRunsOf}

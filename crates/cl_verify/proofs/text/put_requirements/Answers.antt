@@ -1,6 +1,5 @@
 use Rattle.std.proofs.Common.{ℕ, ◌<◌, ◌++◌, length, sym, ap, ◌∙◌, arith}
-use Rattle.cl_model.specs.declared.chain.RequirementDef.{RequirementDef}
-use Rattle.cl_runs.specs.Requirements.{requirement_at}
+use Rattle.cl_model.specs.{declared.chain.RequirementDef.RequirementDef, ByNumber.requirement_at}
 use Rattle.cl_text.proofs.MoreLines.{line_more}
 use Rattle.cl_report.proofs.ReportLines.{requirement_found}
 use Rattle.cl_verify.specs.{declared.decision.Decision.Decision, Decisions.decision_at, VerifyText.decision_line}

@@ -2,12 +2,12 @@ use Rattle.std.proofs.Common.{Bool, List, [], ◌∷◌, ◌++◌, ℕ, false, g
 use Rattle.std.proofs.lemmas.Result.{on_ok_weaker}
 use Rattle.cl_hop.specs.declared.group_timing.GroupTiming.{GroupTiming}
 use Rattle.cl_explain.specs.Explanation.{group_words}
-use Rattle.cl_why.specs.{Shares.free_words, Hops.{timing_at_place, kept_at, group_line}}
+use Rattle.cl_why.specs.{Shares.free_words, Hops.{timing_at_place, kept_at, why_group_line}}
 use Rattle.cl_why.proofs.TimedGroups.{timing_found, line_of_two}
 use Rattle.cl_why.proofs.hops.put_group.Goals as goal
 
 pub returns : goal.returns
-unfolding group_line
+unfolding why_group_line
 returns c =
     let model = c.args.model.now in
     let chain = c.args.chain in

@@ -2,7 +2,7 @@ use Rattle.std.proofs.Common.{◌≡◌, ◌≤◌, inl, inr, pos, ◌-ℤ◌, �
 use Rattle.std.specs.Prelude.{Option, MatchOption, unwrap_or}
 use Rattle.std.proofs.lemmas.Int.{ints}
 use Rattle.cl_stim.specs.Phase.{last_arrival}
-use Rattle.cl_resp.specs.{Asked.is_answered, Inner.{Phased.asked_of, Searching.{IsReached, NoneSuffices}}}
+use Rattle.cl_resp.specs.{Asked.is_answered, Inner.{Phased.asked_of, Searching.{IsLeastSoFar, NoneSuffices}}}
 use Rattle.cl_resp.proofs.{SearchedReleases.{last_before, none_after}, SearchedArrivals.{passed, passed_arrival, passed_before, near_it, begins_there, last_or_before, longer_or_same, is_longer, ends_near, way_falls, ended, enough, reached_more, none_suffices, answered_all_down}}
 use Rattle.cl_resp.proofs.SearchedArrivals.{none_begun, answered_further, answered_by_widest}
 use Rattle.cl_resp.proofs.by_phase.Search.answer.Goals as goal
@@ -63,7 +63,7 @@ returns-in_err-width c =
     let may = begins_there c.args.question.now c.requires.in_range c.args.arrival c.requires.arrival (to_z w64 c.loop-start.start-bits) c.last_arrival-before.result
     c.last_arrival-before.ensures.not_after c.last_arrival-before.ensures.near c.loop-start-test.true c.loop-start.invariant.by_latest c.last_arrival-before.ensures.last in
     subst (λ (found : Option ℕ). MatchOption found (NoneSuffices (asked_of question))
-    (λ longest. IsReached (asked_of question) longest × (c.args.so_far ≤ longest) × (is_answered (asked_of question) longest c.args.arrival ≡ true)))
+    (λ longest. IsLeastSoFar (asked_of question) longest × (c.args.so_far ≤ longest) × (is_answered (asked_of question) longest c.args.arrival ≡ true)))
     (sym c.from_residual.ensures)
     (none_suffices (asked_of question) c.requires.in_range.arrivals.is_phase c.args.arrival c.requires.arrival.0 c.requires.arrival.1 c.requires.arrives
     (to_z w64 c.loop-start.start-bits) may _ (omega (arith, ints, near)) c.in_err-width.ensures)

@@ -2,7 +2,7 @@ use Rattle.std.proofs.Common.{◌≡◌, ◌≤◌, ◌⊎◌, inl, inr, pos, ne
 use Rattle.std.specs.Prelude.{unwrap_or}
 use Rattle.std.proofs.lemmas.Bool.{cases_lt, leb-true}
 use Rattle.std.proofs.lemmas.Int.{ints}
-use Rattle.cl_resp.specs.Inner.{Phased.asked_of, Searching.{IsReached, AreWithin}}
+use Rattle.cl_resp.specs.Inner.{Phased.asked_of, Searching.{IsLeastSoFar, WindowsWithin}}
 use Rattle.cl_resp.proofs.{SearchedStarts.none_is_least, SearchedReleases.{last_before, none_after}, SearchedArrivals.{passed, none_reached, none_suffices, reached_more, suffices_first, last_or_before, way_falls}, SearchedMoments.{arrives_there, begins_itself, moments_suffice}}
 use Rattle.cl_resp.proofs.{SearchedMoments.{none_within, held_within, least_within, within_further}, by_phase.Search.answer_each_moment.Goals.{then-not-holds+in_ok-width, else-not-holds}}
 use Rattle.cl_resp.proofs.by_phase.Search.answer_each_moment.Goals as goal
@@ -66,11 +66,11 @@ loop-start-preserved c =
         | then-not-holds+in_ok-width w ↦
             let width = w.in_ok-width.width in
             let longer = w.max-longest.result in
-            subst (IsReached asked) (sym w.longest-is)
+            subst (IsLeastSoFar asked) (sym w.longest-is)
             (reached_more asked range.arrivals.is_phase start there was.by_end (arrives_there question range c.requires.each start)
             start (begins_itself question range c.requires.each start) longest longer width was.reached w.in_ok-width.ensures.0
             (omega (arith, ints, w.in_ok-width.ensures.1)) (either longest width longer start w.max-longest.ensures))
-        | else-not-holds w ↦ subst (IsReached asked) (sym w.longest-is) was.reached
+        | else-not-holds w ↦ subst (IsLeastSoFar asked) (sym w.longest-is) was.reached
       ];
       within = elim c.if-not-holds.branch [
         | then-not-holds+in_ok-width w ↦
@@ -78,11 +78,11 @@ loop-start-preserved c =
             let longer = w.max-longest.result in
             let more : longest ≤ longer = omega (arith, w.max-longest.ensures) in
             let enough : width ≤ longer = omega (arith, w.max-longest.ensures) in
-            subst (λ n. AreWithin asked n (passed c.unwrap_or-start.result) (pos question.cycle)) (sym w.longest-is)
+            subst (λ n. WindowsWithin asked n (passed c.unwrap_or-start.result) (pos question.cycle)) (sym w.longest-is)
             (within_further question longest longer start (pos question.cycle) (passed c.unwrap_or-start.result) (negsuc 0) last
             was.within more (least_within question longer width start w.in_ok-width.ensures.0 enough) next none)
         | else-not-holds w ↦
-            subst (λ n. AreWithin asked n (passed c.unwrap_or-start.result) (pos question.cycle)) (sym w.longest-is)
+            subst (λ n. WindowsWithin asked n (passed c.unwrap_or-start.result) (pos question.cycle)) (sym w.longest-is)
             (within_further question longest longest start (pos question.cycle) (passed c.unwrap_or-start.result) (negsuc 0) last
             was.within (omega arith) (held_within question longest start range.beside.some_time (leb-true _ _ (sym c.holds.ensures ∙ w.if-not-holds.false))) next none)
       ];

@@ -1,7 +1,7 @@
 use Rattle.std.proofs.Common.{ap, ◌∙◌, inl, inr}
 use Rattle.std.proofs.lemmas.Result.{IfOk-weaker}
 use Rattle.std.specs.Prelude.{Err}
-use Rattle.cl_top.specs.Commands.{meaning_of, Apply.{all_written, refused_alone}, Edit.bad_line}
+use Rattle.cl_top.specs.Commands.{command_meaning, Apply.{all_written, refused_alone}, Edit.bad_line}
 use Rattle.cl_top.proofs.{Applied.from_each, EditsAlike.listed_in_range}
 use Rattle.cl_top.proofs.commands.apply.applied.Goals as goal
 
@@ -10,7 +10,7 @@ pub apply_lines-requires : goal.apply_lines-requires
 apply_lines-requires c = listed_in_range c.args.text.now c.in-Ok.lines c.in-Ok.ensures.lines
 
 pub returns-in-Ok : goal.returns-in-Ok
-unfolding meaning_of
+unfolding command_meaning
 returns-in-Ok c = IfOk-weaker c.apply_lines.result _ _ (λ outcome is. inl (record {
   listed = c.in-Ok.lines;
   are = c.in-Ok.ensures.lines;
@@ -18,7 +18,7 @@ returns-in-Ok c = IfOk-weaker c.apply_lines.result _ _ (λ outcome is. inl (reco
 })) c.apply_lines.ensures
 
 pub returns-in-Err-BadLine : goal.returns-in-Err-BadLine
-unfolding meaning_of
+unfolding command_meaning
 returns-in-Err-BadLine c = IfOk-weaker c.bad_line.result _ _ (λ outcome is. inr (record {
   number = c.in-Err-BadLine.line;
   bad = c.in-Err-BadLine.ensures.bad_line c.in-Err-BadLine.line (ap Err c.in-Err-BadLine.field-0-is);

@@ -4,7 +4,7 @@ use Rattle.std.specs.Prelude.{◌≡◌, Option, Err}
 use Rattle.cl_model.specs.{declared.{model_fault.ModelFault.ModelFault, refusal.Refusal.Refusal}, Answers.MatchFault}
 use Rattle.cl_edit.specs.{Edited.edited, declared.edit_lines.ListedEdit.ListedEdit, Listed.GivesNext}
 use Rattle.cl_engine.specs.declared.outcome.Outcome.{Outcome}
-use Rattle.cl_top.specs.{Commands.{meaning_of, Apply.{all_written, refused_alone}, Edit.edits_refused}, Inner.Applying.ApplyTo}
+use Rattle.cl_top.specs.{Commands.{command_meaning, Apply.{all_written, refused_alone}, Edit.edits_refused}, Inner.Applying.ApplyTo}
 use Rattle.cl_top.proofs.{LinesApplied.{all_left, next_in_range, next_applied, next_refused, none_left}, LinesMade.next_fewer}
 use Rattle.cl_top.proofs.commands.apply.apply_lines.Goals as goal
 
@@ -26,7 +26,7 @@ returns-in-Err-Refused c = IfOk-weaker c.refused_alone.result _ _ (λ outcome is
     c.in-Err-Refused.refusal (subst (λ (fault : ModelFault). MatchFault fault (λ refusal. edited c.loop-model.model c.in-Some.listed.edit ≡ Err refusal)) c.in-Err-Refused.field-0-is c.in-Err-Refused.ensures))) c.refused_alone.ensures
 
 pub returns : goal.returns
-unfolding meaning_of
+unfolding command_meaning
 returns c = IfOk-weaker c.migrated.result _ _ (λ outcome is.
     none_left all_written refused_alone c.args.model c.args.lines c.loop-model.model c.loop-model.lines c.loop-model.invariant c.next.new.self
     (subst (λ (next : Option ListedEdit). GivesNext next c.loop-model.lines c.next.new.self) c.in_default.is c.in_ok-listed.ensures.next) outcome is) c.migrated.ensures
